@@ -1,0 +1,7 @@
+pub mod Numbers
+pub mod Bytes
+pub mod Stream
+pub mod After
+pub mod Turns
+pub mod Room
+pub mod Answers

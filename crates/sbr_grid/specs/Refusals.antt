@@ -1,0 +1,32 @@
+-- Refusals and their numbers: document 01, "Refusals by who causes them".
+use Prim.Native.Nat.{ℕ}
+use Rattle.sbr_grid.specs.declared.Refusal.{Refusal}
+use Rattle.sbr_grid.specs.declared.Refusal.the-variants.{SlotCount, Samples, Tables, Room, Unwritable, TimeGrid, BitsEnd, EnvelopeCount, Chain}
+use Rattle.sbr_grid.specs.declared.Answer.{Answer}
+use Rattle.sbr_grid.specs.declared.Answer.the-variants.{Given, Refused}
+
+abbrev pub numberOf : Refusal → ℕ
+numberOf SlotCount = 1
+numberOf Samples = 2
+numberOf Tables = 3
+numberOf Room = 4
+numberOf Unwritable = 5
+numberOf TimeGrid = 6
+numberOf BitsEnd = 7
+numberOf EnvelopeCount = 8
+numberOf Chain = 9
+
+-- what a call comes to: a full result, or a refusal
+pub data Outcome (A : Type 0) : Type 0 where
+  answered : A → Outcome A
+  refused : Refusal → Outcome A
+
+-- the enum that a program hands out for it
+abbrev pub answerOf : {A : Type 0} → Outcome A → Answer
+answerOf (answered a) = Given
+answerOf (refused e) = Refused e
+
+-- the value of an answer, or what stands beside a refusal
+abbrev pub valueOr : {A B : Type 0} → (A → B) → B → Outcome A → B
+valueOr f d (answered a) = f a
+valueOr f d (refused e) = d

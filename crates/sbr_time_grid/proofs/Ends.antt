@@ -1,0 +1,77 @@
+-- What an answer of `timeGrid` tells: the tests that it passed, and the first and the last border.
+use mathlib.Core.Path.{_≡_, refl}
+use mathlib.Core.Bool.{Bool, true, false, cond, _&&_, and-eq-true-iff}
+use Prim.Native.Nat.{ℕ, _+_, _≤_, _<_}
+use native.Mathlib.Nat.{zero-add}
+use native.Mathlib.Omega.{arith}
+use borrow.Author.Tests.{leb-true, eq-eqb, ne-eqb}
+use lib.Dec.{leb}
+use lib.ListN.{length, getD}
+use Rattle.sbr_grid.specs.declared.FrameClass.{FrameClass}
+use Rattle.sbr_grid.specs.declared.FrameClass.the-variants.{FixFix, FixVar, VarFix, VarVar}
+use Rattle.sbr_grid.specs.declared.Refusal.the-variants.{SlotCount, TimeGrid}
+use Rattle.sbr_grid.specs.Refusals.{answered, refused}
+use Rattle.sbr_grid.specs.Grid.{Grid, numEnv}
+use Rattle.sbr_time_grid.specs.TimeGrid.{Times, byClass, absBordLead, absBordTrail, bordersFit, tE, times, accepts, slotCount, timeGrid}
+use Rattle.sbr_time_grid.proofs.Laws.{Counts, counts}
+use Rattle.sbr_time_grid.proofs.Borders.{length-listFrom, getD-listFrom}
+
+-- the tests that a record passes
+pub record Passed (n : ℕ) (g : Grid) (t : Times) : Type 0 where
+  pub slots : slotCount n ≡ true
+  pub tests : accepts n g ≡ true
+  pub value : t ≡ times n g
+
+-- the next law, by the two tests
+passed : (n : ℕ) (g : Grid) (t x : Times) (a b : Bool) → slotCount n ≡ a → accepts n g ≡ b → x ≡ times n g
+    → cond a (cond b (answered x) (refused TimeGrid)) (refused SlotCount) ≡ answered t → Passed n g t
+passed n g t x true true p q r e = record { slots = p; tests = q; value = cc }
+passed n g t x true false p q r e = let z : _≡_ {A = ℕ} 0 1 = cc in absurd (omega arith)
+passed n g t x false true p q r e = let z : _≡_ {A = ℕ} 0 1 = cc in absurd (omega arith)
+passed n g t x false false p q r e = let z : _≡_ {A = ℕ} 0 1 = cc in absurd (omega arith)
+
+-- a record that has a time grid passes the tests, and its time grid is made of its borders
+pub time-passes : (n : ℕ) (g : Grid) (t : Times) → timeGrid n g ≡ answered t → Passed n g t
+unfolding timeGrid
+time-passes n g t e = passed n g t (times n g) (slotCount n) (accepts n g) refl refl refl e
+
+-- where the border bytes in use are at most 3, the first border is too, and the last is at most 3 past the last slot
+low : (k : FrameClass) (n a b : ℕ) → byClass k true (leb b 3) (leb a 3) (leb a 3 && leb b 3) ≡ true
+    → (byClass k 0 0 a a ≤ 3) × (byClass k n (n + b) n (n + b) ≤ n + 3)
+low FixFix n a b e = omega arith
+low FixVar n a b e = omega (arith, leb-true b 3 e)
+low VarFix n a b e = omega (arith, leb-true a 3 e)
+low VarVar n a b e = let p = simp and-eq-true-iff at e in omega (arith, leb-true a 3 (p .0), leb-true b 3 (p .1))
+
+-- the first and the last border of a time grid, and how many there are
+pub record Ends (n : ℕ) (g : Grid) (t : Times) : Type 0 where
+  pub start : getD (t .tE) 0 0 ≤ 3
+  pub end : getD (t .tE) (numEnv g) 0 ≤ n + 3
+  pub count : length (t .tE) ≡ numEnv g + 1
+  pub few : numEnv g ≤ 5
+  pub some : 0 < numEnv g
+
+-- the next law for the borders of a record that passes
+ends : (n : ℕ) (g : Grid) → Counts g → bordersFit g ≡ true → Ends n g (times n g)
+unfolding tE absBordLead absBordTrail bordersFit
+ends n g c b =
+    let l = low (g .frameClass) n (g .varBord0) (g .varBord1) b in
+    record {
+      start = rw (getD-listFrom (tE n g) 0 (numEnv g + 1) 0 (omega arith)) (l .0);
+      end = rw (
+        getD-listFrom (tE n g) 0 (numEnv g + 1) (numEnv g) (omega arith),
+        zero-add,
+        ne-eqb (numEnv g) 0 (omega arith),
+        eq-eqb (numEnv g) (numEnv g) refl,
+      ) (l .1);
+      count = length-listFrom (tE n g) 0 (numEnv g + 1);
+      few = c .few;
+      some = c .some;
+    }
+
+-- an answer has its ends within these bounds
+pub time-ends : (n : ℕ) (g : Grid) (t : Times) → timeGrid n g ≡ answered t → Ends n g t
+time-ends n g t e =
+    let p = time-passes n g t e in
+    let q = simp and-eq-true-iff at (p .tests) in
+    rw (p .value) (ends n g (counts g (q .0 .0 .0)) (q .0 .0 .1))

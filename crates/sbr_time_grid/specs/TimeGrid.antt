@@ -1,0 +1,153 @@
+-- Time borders of a grid: ISO/IEC 14496-3, 4.6.18.3.3 with Tables 4.174 and 4.176. L_E is the envelope count.
+-- Borders are whole numbers from 0 on. A difference that would fall below 0 is 0 here: like the negative number it is not above
+-- the border before it, so the grid is refused either way.
+use mathlib.Core.Bool.{Bool, true, false, cond, _&&_, _||_}
+use mathlib.Core.List.{List, [], _∷_}
+use Prim.Native.Nat.{ℕ, zero, suc, _+_, _-_, _*_, _/_}
+use lib.Dec.{leb, ltb, eqb}
+use lib.IntN.{ℤ, pos, negsuc, _-ℤ_}
+use lib.ListN.{length, getD}
+use Rattle.sbr_grid.specs.declared.FrameClass.{FrameClass}
+use Rattle.sbr_grid.specs.declared.FrameClass.the-variants.{FixFix, FixVar, VarFix, VarVar}
+use Rattle.sbr_grid.specs.declared.Refusal.the-variants.{SlotCount, TimeGrid}
+use Rattle.sbr_grid.specs.Refusals.{Outcome, answered, refused, answerOf, valueOr}
+use Rattle.sbr_grid.specs.Grid.{first, Grid, numEnv}
+use Rattle.sbr_time_grid.specs.declared.TimeGrid.{TimeGrid as TimeRecord}
+use Rattle.sbr_time_grid.specs.declared.Derived.{Derived}
+
+-- t_E, t_Q and l_A of a frame; l_A, the mark, is -1 for none
+pub record Times : Type 0 where
+  pub tE : List ℕ
+  pub tQ : List ℕ
+  pub lA : ℤ
+
+-- a row of the standard's tables: the entries of FIXFIX, FIXVAR, VARFIX, VARVAR
+abbrev pub byClass : {A : Type 0} → FrameClass → A → A → A → A → A
+byClass FixFix a b c d = a
+byClass FixVar a b c d = b
+byClass VarFix a b c d = c
+byClass VarVar a b c d = d
+
+-- a column of Tables 4.174 and 4.176: the entries for bs_pointer 0, 1 and above
+abbrev pub byPointer : {A : Type 0} → ℕ → A → A → A → A
+byPointer zero a b c = a
+byPointer (suc zero) a b c = b
+byPointer (suc (suc p)) a b c = c
+
+-- NINT(num / den), halves away from zero
+abbrev pub nint : ℕ → ℕ → ℕ
+nint num den = (2 * num + den) / (2 * den)
+
+-- the slots of a stored relative length
+abbrev pub slots : ℕ → ℕ
+slots r = 2 * r + 2
+
+unfoldable pub absBordLead : Grid → ℕ
+absBordLead g = byClass (g .frameClass) 0 0 (g .varBord0) (g .varBord0)
+
+unfoldable pub absBordTrail : ℕ → Grid → ℕ
+absBordTrail n g = byClass (g .frameClass) n (n + g .varBord1) n (n + g .varBord1)
+
+unfoldable pub nRelLead : Grid → ℕ
+nRelLead g = byClass (g .frameClass) (numEnv g - 1) 0 (length (g .relBord0)) (length (g .relBord0))
+
+unfoldable pub nRelTrail : Grid → ℕ
+nRelTrail g = byClass (g .frameClass) 0 (length (g .relBord1)) 0 (length (g .relBord1))
+
+unfoldable pub relBordLead : ℕ → Grid → ℕ → ℕ
+relBordLead n g l =
+    byClass (g .frameClass) (nint n (numEnv g)) 0 (slots (getD (g .relBord0) l 0)) (slots (getD (g .relBord0) l 0))
+
+abbrev pub relBordTrail : Grid → ℕ → ℕ
+relBordTrail g l = slots (getD (g .relBord1) l 0)
+
+-- f 0 + .. + f (k - 1)
+unfoldable pub sum : (ℕ → ℕ) → ℕ → ℕ
+sum f zero = 0
+sum f (suc k) = sum f k + f k
+
+-- f 0 .. f (k - 1), and those from i on
+unfoldable pub listFrom : (ℕ → ℕ) → ℕ → ℕ → List ℕ
+listFrom f i zero = []
+listFrom f i (suc k) = f i ∷ listFrom f (suc i) k
+
+unfoldable pub tE : ℕ → Grid → ℕ → ℕ
+tE n g l =
+    cond (eqb l 0) (absBordLead g)
+    (cond (eqb l (numEnv g)) (absBordTrail n g)
+    (cond (leb l (nRelLead g)) (absBordLead g + sum (relBordLead n g) l)
+    (absBordTrail n g - sum (relBordTrail g) (numEnv g - l))))
+
+-- each border from the second to the one at k is above the one before it
+unfoldable pub rises : (ℕ → ℕ) → ℕ → Bool
+rises f zero = true
+rises f (suc k) = rises f k && ltb (f k) (f (suc k))
+
+-- Table 4.174
+unfoldable pub middleBorder : Grid → ℕ
+middleBorder g =
+    let l = numEnv g in
+    let p = g .pointer in
+    byClass (g .frameClass) (l / 2) (byPointer p (l - 1) (l - 1) (l + 1 - p)) (byPointer p 1 (l - 1) (p - 1))
+    (byPointer p (l - 1) (l - 1) (l + 1 - p))
+
+-- Table 4.176
+unfoldable pub lA : Grid → ℤ
+lA g =
+    let none = negsuc 0 in
+    let at = pos (numEnv g + 1) -ℤ pos (g .pointer) in
+    byClass (g .frameClass) none (byPointer (g .pointer) none at at) (byPointer (g .pointer) none none (pos (g .pointer - 1)))
+    (byPointer (g .pointer) none at at)
+
+-- numTimeSlots (refusal 1)
+unfoldable pub slotCount : ℕ → Bool
+slotCount n = eqb n 15 || eqb n 16
+
+-- the counts are within the record (document 01, refusal 6), and the list in use has a length for each envelope but one
+unfoldable pub countsFit : Grid → Bool
+countsFit g =
+    leb 1 (numEnv g) && leb (numEnv g) 5 && leb (length (g .relBord0)) 4 && leb (length (g .relBord1)) 4
+    && eqb (nRelLead g + nRelTrail g + 1) (numEnv g)
+
+-- a border byte that the class uses is at most 3 (document 01, refusal 6)
+unfoldable pub bordersFit : Grid → Bool
+bordersFit g =
+    let zeroth = leb (g .varBord0) 3 in
+    let oneth = leb (g .varBord1) 3 in
+    byClass (g .frameClass) true oneth zeroth (zeroth && oneth)
+
+-- L_Q: one noise floor for one envelope, else two, which meet inside the frame
+unfoldable pub noiseFits : Grid → Bool
+noiseFits g =
+    cond (leb (numEnv g) 1) (eqb (g .numNoise) 1)
+    (eqb (g .numNoise) 2 && leb 1 (middleBorder g) && ltb (middleBorder g) (numEnv g))
+
+unfoldable pub tQ : ℕ → Grid → List ℕ
+tQ n g =
+    cond (leb (numEnv g) 1) (tE n g 0 ∷ tE n g (numEnv g) ∷ [])
+    (tE n g 0 ∷ tE n g (middleBorder g) ∷ tE n g (numEnv g) ∷ [])
+
+abbrev pub times : ℕ → Grid → Times
+times n g = record { tE = listFrom (tE n g) 0 (numEnv g + 1); tQ = tQ n g; lA = lA g }
+
+abbrev pub accepts : ℕ → Grid → Bool
+accepts n g = countsFit g && bordersFit g && rises (tE n g) (numEnv g) && noiseFits g
+
+unfoldable pub timeGrid : ℕ → Grid → Outcome Times
+timeGrid n g = cond (slotCount n) (cond (accepts n g) (answered (times n g)) (refused TimeGrid)) (refused SlotCount)
+
+-- the record of a time grid: places past a count are zero; and the empty one, which stands beside a refusal
+abbrev pub timeRecord : Times → TimeRecord
+timeRecord t = record {
+  «num_env» = length (t .tE) - 1;
+  «t_e» = first 0 6 (t .tE);
+  «num_noise» = length (t .tQ) - 1;
+  «t_q» = first 0 3 (t .tQ);
+  «l_a» = t .lA;
+}
+
+abbrev pub emptyTime : TimeRecord
+emptyTime = timeRecord (record { tE = []; tQ = []; lA = pos 0 })
+
+abbrev pub derivedOf : Outcome Times → Derived
+derivedOf o = record { answer = answerOf o; time = valueOr timeRecord emptyTime o }

@@ -1,0 +1,3 @@
+pub mod Gather
+pub mod Facts
+pub mod Answers

@@ -1,0 +1,33 @@
+// sbr_grid() written: `write_grid` of src/sbr_writer.rs.
+use bits::Placed;
+use sbr_grid::Refusal;
+use sbr_grid::SbrGrid;
+ghost use mathlib.Core.Path.{_≡_};
+ghost use mathlib.Core.Bool.{true};
+ghost use Rattle.sbr_grid.specs.Grid.{viewOf};
+ghost use Rattle.sbr_writer.specs.Write.{writeGrid, writtenOf, bytesAfter};
+
+mod code;
+mod fits;
+
+// Where a record's bits end, or why none was written.
+pub enum Written {
+    // The position after the last bit.
+    To(usize),
+    Refused(Refusal),
+}
+
+// A record's sbr_grid() is written at a bit position; every other bit is kept, and a refused call keeps them all.
+pub fn write_grid(buf: &mut [u8], pos: usize, grid: SbrGrid) -> Written
+    ensures answer { λ r. ⌜ r ≡ writtenOf (writeGrid (now (buf .entry)) pos (viewOf grid)) ⌝ }
+    ensures bytes { λ _. ⌜ now (buf .exit) ≡ bytesAfter (now (buf .entry)) (writeGrid (now (buf .entry)) pos (viewOf grid)) ⌝ }
+{
+    if !fits::writable(grid) {
+        return Written::Refused(Refusal::Unwritable);
+    }
+    let bits = code::grid_bits(grid);
+    match bits::put_bits(buf, pos, bits.value, bits.width) {
+        Placed::To(next) => Written::To(next),
+        Placed::NoRoom => Written::Refused(Refusal::Room),
+    }
+}
