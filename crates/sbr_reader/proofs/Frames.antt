@@ -1,0 +1,117 @@
+-- Every frame that reading accepts can be written again.
+use mathlib.Core.Path.{_≡_, refl, ap}
+use mathlib.Core.Bool.{Bool, true, false, cond, _&&_}
+use mathlib.Core.List.{List}
+use Prim.Native.Nat.{ℕ, zero, suc, _+_, _-_, _^_, _≤_, _<_}
+use native.Mathlib.Omega.{arith}
+use native.Mathlib.Decide.{decLe}
+use borrow.Author.Tests.{le-leb, lt-leb, leb-true, ltb-true}
+use lib.Dec.{leb, ltb, eqb}
+use lib.IntN.{ℤ}
+use lib.ListN.{length, length-append, getD}
+use Rattle.bits.specs.Room.{bitsFrom}
+use Rattle.sbr_grid.specs.declared.FrameClass.{FrameClass}
+use Rattle.sbr_grid.specs.declared.FrameClass.the-variants.{FixFix, FixVar, VarFix, VarVar}
+use Rattle.sbr_grid.specs.declared.Refusal.{Refusal}
+use Rattle.sbr_grid.specs.Refusals.{Outcome, answered, refused, valueOr}
+use Rattle.sbr_grid.specs.Grid.{widthFrom, ptrBits, Grid, numEnv}
+use Rattle.sbr_time_grid.specs.TimeGrid.{Times, byPointer, slotCount, tE, rises, middleBorder, countsFit, bordersFit, noiseFits, accepts, timeGrid}
+use Rattle.sbr_writer.specs.Syntax.{gridBits}
+use Rattle.sbr_reader.specs.Syntax.{sbrGrid}
+use Rattle.sbr_reader.specs.Read.{Frame, isBorder, meets, timed, parsed, readGrid}
+use Rattle.sbr_reader.specs.Inverse.{WrittenAs, FrameWrites}
+use Rattle.sbr_writer.proofs.Facts.{both}
+use Rattle.sbr_reader.proofs.Inverse.{Sent, sent, writes-back}
+
+-- an answer behind a test is the one where the test holds
+tested : {A : Type 0} (t : Bool) (x : Outcome A) (e : Refusal) {a : A} → cond t x (refused e) ≡ answered a → (t ≡ true) × (x ≡ answered a)
+tested true x e h = (refl, h)
+tested false x e h = let z : _≡_ {A = ℕ} 0 1 = cc in absurd (omega arith)
+
+-- a middle border inside the frame is that of a pointer of at most the envelope count
+pointer-from : (p l : ℕ) → 1 < l → 1 ≤ byPointer p (l - 1) (l - 1) (l + 1 - p) → p ≤ l
+pointer-from zero l h k = omega arith
+pointer-from (suc zero) l h k = omega arith
+pointer-from (suc (suc p)) l h k = omega arith
+
+pointer-to : (p l : ℕ) → 1 < l → byPointer p 1 (l - 1) (p - 1) < l → p ≤ l
+pointer-to zero l h k = omega arith
+pointer-to (suc zero) l h k = omega arith
+pointer-to (suc (suc p)) l h k = omega arith
+
+inside : (c : FrameClass) (g : Grid) → g .frameClass ≡ c → (c ≡ FixFix → ⊥) → 1 < numEnv g
+    → 1 ≤ middleBorder g → middleBorder g < numEnv g → g .pointer ≤ numEnv g
+unfolding middleBorder
+inside FixFix g e f l a b = absurd (f refl)
+inside FixVar g e f l a b = pointer-from (g .pointer) (numEnv g) l (rw e at a)
+inside VarFix g e f l a b = pointer-to (g .pointer) (numEnv g) l (rw e at b)
+inside VarVar g e f l a b = pointer-from (g .pointer) (numEnv g) l (rw e at a)
+
+-- a frame of two or more envelopes that has a time grid has a pointer of at most its envelope count
+pub time-pointer : (n : ℕ) (g : Grid) (t : Times) → timeGrid n g ≡ answered t → 1 < numEnv g → (g .frameClass ≡ FixFix → ⊥)
+    → g .pointer ≤ numEnv g
+unfolding timeGrid noiseFits
+time-pointer n g t h l f =
+    let a = tested (accepts n g) _ _ (tested (slotCount n) _ _ h .1) in
+    let b = both (countsFit g && bordersFit g && rises (tE n g) (numEnv g)) (noiseFits g) (a .0) in
+    let m = middleBorder g in
+    let c = both (eqb (g .numNoise) 2 && leb 1 m) (ltb m (numEnv g)) (rw (lt-leb (numEnv g) 1 l) at (b .1)) in
+    let d = both (eqb (g .numNoise) 2) (leb 1 m) (c .0) in
+    inside (g .frameClass) g refl f l (leb-true _ _ (d .1)) (ltb-true _ _ (c .1))
+
+-- whether a class is FixFix
+fixed : (c : FrameClass) → Dec (c ≡ FixFix)
+fixed FixFix = yes refl
+fixed FixVar = no (λ e. let z : _≡_ {A = ℕ} 0 1 = cc in omega arith)
+fixed VarFix = no (λ e. let z : _≡_ {A = ℕ} 0 1 = cc in omega arith)
+fixed VarVar = no (λ e. let z : _≡_ {A = ℕ} 0 1 = cc in omega arith)
+
+-- one envelope has a pointer of one bit
+narrow-one : (p k : ℕ) → k ≤ 1 → p < 2 ^ ptrBits k → p ≤ k
+unfolding widthFrom
+narrow-one p zero l h = omega arith
+narrow-one p (suc zero) l h = omega arith
+narrow-one p (suc (suc k)) l h = absurd (omega arith)
+
+-- a record that was read and has a time grid has a pointer of at most its envelope count
+pointed : (n : ℕ) (g : Grid) (t : Times) (u : List Bool) → Sent g u → timeGrid n g ≡ answered t
+    → Dec (numEnv g ≤ 1) → Dec (g .frameClass ≡ FixFix) → g .pointer ≤ numEnv g
+pointed n g t u s h (yes l) d = narrow-one (g .pointer) (numEnv g) l (s .narrow)
+pointed n g t u s h (no l) (yes e) = omega (arith, rw e at (ap (λ x. x .pointer) (s .clear)))
+pointed n g t u s h (no l) (no f) = time-pointer n g t h (omega arith) f
+
+-- an accepted frame has the record and the position that it was accepted with
+met : (n : ℕ) (b : ℤ) (g : Grid) (q : ℕ) (t : Times) (f : Frame) → meets n b g q t ≡ answered f
+    → (g ≡ f .grid) × (q ≡ f .position)
+unfolding meets
+met n b g q t f h =
+    let e = tested (isBorder b (getD (t .tE) 0 0 + n)) _ _ h .1 in
+    (ap (valueOr (λ x. x .grid) g) e, ap (valueOr (λ x. x .position) q) e)
+
+module _ (n : ℕ) (b : ℤ) (p : ℕ) (bs : List Bool) (f : Frame) where
+  -- what is to be shown of a frame read from bs
+  abbrev Rewrites : Type 0
+  Rewrites = (r : List Bool) × WrittenAs bs (f .grid) r × (f .position ≡ p + length (gridBits (f .grid)))
+
+  -- of a frame whose time grid came to o
+  written : (g : Grid) (rest : List Bool) (o : Outcome Times) → sbrGrid bs ≡ answered (g, rest) → timeGrid n g ≡ o
+      → timed n b g (p + (length bs - length rest)) o ≡ answered f → Rewrites
+  written g rest (refused x) h e k = let z : _≡_ {A = ℕ} 0 1 = cc in absurd (omega arith)
+  written g rest (answered t) h e k =
+      let s = sent bs g rest h in
+      let l = pointed n g t (s .0) (s .2) e (decLe (numEnv g) 1) (fixed (g .frameClass)) in
+      let w = writes-back bs g rest h (le-leb _ _ l) in
+      let m = met n b g (p + (length bs - length rest)) t f k in
+      (rest, rw (m .0) at w, rw (← (m .0), ← (m .1)) (omega (arith, ap length (w .bits), length-append (gridBits g) rest)))
+
+  -- of a frame whose bits came to o
+  read : (o : Outcome (Grid × List Bool)) → sbrGrid bs ≡ o → parsed n b p (length bs) o ≡ answered f → Rewrites
+  read (refused x) e k = let z : _≡_ {A = ℕ} 0 1 = cc in absurd (omega arith)
+  read (answered r) e k = written (r .0) (r .1) (timeGrid n (r .0)) e refl k
+
+-- the record of every accepted frame is writable and writes the bits that it was read from, up to the frame's position
+pub frame-writes : FrameWrites
+unfolding readGrid
+frame-writes l p n b f h =
+    let o = sbrGrid (bitsFrom l p) in
+    read n b p (bitsFrom l p) f o refl (tested (slotCount n) _ _ h .1)

@@ -1,0 +1,4 @@
+pub mod Syntax
+pub mod Parse
+pub mod Read
+pub mod Inverse
