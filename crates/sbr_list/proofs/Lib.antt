@@ -1,0 +1,6 @@
+pub mod Lines
+pub mod Signs
+pub mod Whole
+pub mod Bounds
+pub mod Pages
+pub mod Turns

@@ -1,0 +1,136 @@
+-- Laws of a line that is made of parts.
+use mathlib.Core.Path.{_≡_, refl, ap}
+use mathlib.Core.Bool.{Bool, false}
+use mathlib.Core.List.{List, [], _∷_, _++_, map, append-nil}
+use Prim.Native.Nat.{ℕ, zero, suc, _+_, _/_, _%_, _≤_, _<_}
+use native.Mathlib.Omega.{arith}
+use native.Mathlib.Numerals.{add-one}
+use borrow.Author.Tests.{lt-ltb, le-ltb}
+use lib.ListN.{length, getD, drop, set, length-append, length-map, drop-of-length-le, List·getD-map}
+use lib.Seq.{append-snoc, drop-cons}
+use Rattle.sbr_grid.specs.Grid.{first}
+use Rattle.sbr_grid.proofs.Laws.{length-first, getD-first}
+use Rattle.sbr_list.specs.declared.text.Line.{Line}
+use Rattle.sbr_list.specs.Listing.{decimal, spaced, resolution}
+use Rattle.sbr_list.specs.Line.{lineOf, withByte, appended, Small}
+
+-- a byte behind a line
+pub appended-byte : (w : Line) (b : ℕ) → appended w (b ∷ []) ≡ withByte w b
+unfolding appended
+appended-byte w b = refl
+
+-- a text behind another is both behind the line
+pub appended-append : (w : Line) (a b : List ℕ) → appended (appended w a) b ≡ appended w (a ++ b)
+unfolding appended
+appended-append w [] b = refl
+appended-append w (x ∷ a) b = appended-append (withByte w x) a b
+
+-- a line behind which two texts were put, one after the other
+pub then : (v w r : Line) (a b : List ℕ) → w ≡ appended v a → r ≡ appended w b → r ≡ appended v (a ++ b)
+then v w r a b e f = rw (f, e, appended-append v a b)
+
+-- the byte behind a text that is padded
+set-first : (n : ℕ) (t : List ℕ) (b : ℕ) → length t < n → set (first 0 n t) (length t) b ≡ first 0 n (t ++ (b ∷ []))
+set-first zero t b h = absurd (omega arith)
+set-first (suc n) [] b h = refl
+set-first (suc n) (x ∷ t) b h = ap {B = List ℕ} (λ l. x ∷ l) (set-first n t b (omega arith))
+
+line-byte : (t : List ℕ) (b : ℕ) → length t < 64 → withByte (lineOf t) b ≡ lineOf (t ++ (b ∷ []))
+unfolding lineOf
+line-byte t b h = rw (lt-ltb (length t) 64 h, set-first 64 t b h, length-append t (b ∷ []))
+
+-- a text behind that of a line that has room for both
+line-text : (s t : List ℕ) → length s + length t ≤ 64 → appended (lineOf s) t ≡ lineOf (s ++ t)
+unfolding appended
+line-text s [] h = rw append-nil
+line-text s (b ∷ t) h =
+    rw (line-byte s b (omega arith), line-text (s ++ (b ∷ [])) t (omega (arith, length-append s (b ∷ [])))) (ap lineOf (append-snoc s b t))
+
+-- a text of at most 64 bytes is a line
+pub line-whole : (t : List ℕ) → length t ≤ 64 → appended (lineOf []) t ≡ lineOf t
+line-whole t h = line-text [] t (omega arith)
+
+-- one turn of a loop that appends a text byte by byte
+pub appended-next : (w r : Line) (t : List ℕ) (j d x : ℕ) → j < length t → x ≡ getD t j d → r ≡ appended w (x ∷ [])
+    → appended r (drop (j + 1) t) ≡ appended w (drop j t)
+appended-next w r t j d x h e f = rw (f, e, appended-append w (getD t j d ∷ []) (drop (j + 1) t), add-one, drop-cons t j d h)
+
+-- nothing is left to append
+pub appended-done : (w : Line) (t : List ℕ) (j : ℕ) → length t ≤ j → appended w (drop j t) ≡ w
+unfolding appended
+appended-done w t j h = rw (drop-of-length-le t {i = j} h)
+
+-- numbers of one, two and three digits
+pub decimal-one : (n : ℕ) → n < 10 → decimal n ≡ (48 + n) ∷ []
+unfolding decimal
+decimal-one n h = rw (lt-ltb n 10 h)
+
+pub decimal-two : (n : ℕ) → 10 ≤ n → n < 100 → decimal n ≡ (48 + n / 10) ∷ (48 + n % 10) ∷ []
+unfolding decimal
+decimal-two n g h = rw (le-ltb n 10 g, lt-ltb n 100 h)
+
+pub decimal-three : (n : ℕ) → 100 ≤ n → decimal n ≡ (48 + n / 100) ∷ (48 + n / 10 % 10) ∷ (48 + n % 10) ∷ []
+unfolding decimal
+decimal-three n g = rw (le-ltb n 10 (omega arith), le-ltb n 100 g)
+
+-- numbers with a blank before each
+unfoldable pub behind : List ℕ → List ℕ
+behind [] = []
+behind (x ∷ xs) = 32 ∷ (decimal x ++ behind xs)
+
+-- the first of several numbers, and the others
+pub spaced-behind : (x : ℕ) (xs : List ℕ) → spaced (x ∷ xs) ≡ decimal x ++ behind xs
+unfolding spaced behind
+spaced-behind x [] = rw append-nil
+spaced-behind x (y ∷ xs) = rw (spaced-behind y xs)
+
+spaced-first : (t : List ℕ) → 0 < length t → spaced t ≡ decimal (getD t 0 0) ++ behind (drop 1 t)
+spaced-first [] h = absurd (omega arith)
+spaced-first (x ∷ t) h = spaced-behind x t
+
+-- the first n of a list: the number at j is small where all of them are
+pub small-at : (n j : ℕ) (t : List ℕ) → Small (first 0 n t) → j < n → getD t j 0 < 100
+small-at n j t s h = rw (getD-first 0 n j t h) at (s j)
+
+-- one of the first n numbers more
+pub behind-next : (w s r : Line) (t : List ℕ) (n j : ℕ) → j < n → s ≡ appended w (32 ∷ []) → r ≡ appended s (decimal (getD t j 0))
+    → appended r (behind (drop (j + 1) (first 0 n t))) ≡ appended w (behind (drop j (first 0 n t)))
+unfolding behind
+behind-next w s r t n j h e f =
+    rw (
+      f,
+      e,
+      appended-append (appended w (32 ∷ [])) (decimal (getD t j 0)) (behind (drop (j + 1) (first 0 n t))),
+      appended-append w (32 ∷ []) (decimal (getD t j 0) ++ behind (drop (j + 1) (first 0 n t))),
+      add-one,
+      drop-cons (first 0 n t) j 0 (omega (arith, length-first 0 n t)),
+      getD-first 0 n j t h,
+    )
+
+-- all of the first n numbers are there
+pub spaced-done : (w s r : Line) (t : List ℕ) (n j : ℕ) → 0 < n → s ≡ appended w (decimal (getD t 0 0))
+    → appended r (behind (drop j (first 0 n t))) ≡ appended s (behind (drop 1 (first 0 n t))) → n ≤ j → r ≡ appended w (spaced (first 0 n t))
+unfolding appended behind
+spaced-done w s r t n j h e f l =
+    let c = length-first 0 n t in
+    rw (
+      spaced-first (first 0 n t) (omega arith),
+      getD-first 0 n 0 t h,
+      ← (appended-append w (decimal (getD t 0 0)) (behind (drop 1 (first 0 n t)))),
+      ← e,
+      ← f,
+      drop-of-length-le (first 0 n t) {i = j} (omega arith),
+    )
+
+-- one of the first n resolutions more
+pub letter-next : (w r : Line) (t : List Bool) (n j x : ℕ) → j < n → x ≡ resolution (getD t j false) → r ≡ appended w (x ∷ [])
+    → appended r (drop (j + 1) (map resolution (first false n t))) ≡ appended w (drop j (map resolution (first false n t)))
+letter-next w r t n j x h e f =
+    let l = first false n t in
+    appended-next w r (map resolution l) j 76 x (omega (arith, length-map l resolution, length-first false n t))
+    (rw (List·getD-map resolution l j false, getD-first false n j t h) e) f
+
+pub letters-done : (w : Line) (t : List Bool) (n j : ℕ) → n ≤ j → appended w (drop j (map resolution (first false n t))) ≡ w
+letters-done w t n j h =
+    let l = first false n t in
+    appended-done w (map resolution l) j (omega (arith, length-map l resolution, length-first false n t))
