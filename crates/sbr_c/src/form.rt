@@ -1,0 +1,188 @@
+// A record from what C hands in, and what C is given of one.
+use sbr_grid::FrameClass;
+use sbr_grid::SbrGrid;
+ghost use mathlib.Core.Path.{_≡_};
+ghost use mathlib.Core.Bool.{false};
+ghost use mathlib.Core.List.{[], map};
+ghost use Prim.Native.Nat.{_≤_};
+ghost use lib.Dec.{eqb};
+ghost use lib.ListN.{getD};
+ghost use Rattle.bits.specs.Bits.{bitN};
+ghost use Rattle.sbr_grid.specs.Grid.{first, viewOf};
+ghost use Rattle.sbr_c.specs.Handed.{handed, formed};
+ghost use Rattle.sbr_c.specs.Given.{numbersOf};
+ghost use Rattle.sbr_c.specs.Form.{madeOf, flagsHeld, Few};
+
+// How many numbers C is given of a record.
+const NUMBERS: usize = 9;
+
+// Largest border and largest pointer that a record's byte holds.
+const MAX_BYTE: u32 = 255;
+
+// Largest flag.
+const MAX_FLAG: u8 = 1;
+
+// Class, borders, pointer and lists can be formed.
+pub fn is_formed(
+    frame_class: u32,
+    var_bord_0: u32,
+    var_bord_1: u32,
+    rel_bord_0: &[u8],
+    num_rel_0: usize,
+    rel_bord_1: &[u8],
+    num_rel_1: usize,
+    pointer: u32,
+) -> bool
+    ensures { λ r. ⌜ r ≡ formed (handed «frame_class» 0 0 [] «var_bord_0» «var_bord_1» (now («rel_bord_0» .entry)) «num_rel_0» (now («rel_bord_1» .entry)) «num_rel_1» pointer) ⌝ }
+{
+    if FrameClass::MAX_CODE < frame_class {
+        return false;
+    }
+    if MAX_BYTE < var_bord_0 {
+        return false;
+    }
+    if MAX_BYTE < var_bord_1 {
+        return false;
+    }
+    if MAX_BYTE < pointer {
+        return false;
+    }
+    if rel_bord_0.len() < num_rel_0 {
+        return false;
+    }
+    num_rel_1 <= rel_bord_1.len()
+}
+
+// A record has places for that many flags, and so has the range, where each is 0 or 1.
+pub fn is_flagged(range: &[u8], count: usize) -> bool
+    ensures { λ r. ⌜ r ≡ flagsHeld (handed 0 count 0 (now (range .entry)) 0 0 [] 0 [] 0 0) ⌝ }
+{
+    if SbrGrid::MAX_NUM_ENV < count {
+        return false;
+    }
+    if range.len() < count {
+        return false;
+    }
+    for i in 0..count {
+        if MAX_FLAG < range[i] {
+            return false;
+        }
+    }
+    true
+}
+
+// The byte at a place below the count; 0 past it and past the range.
+fn entry(range: &[u8], count: usize, i: usize) -> u8
+    ensures { λ r. ⌜ r ≡ getD (first 0 count (now (range .entry))) i 0 ⌝ }
+{
+    if count <= i {
+        return 0;
+    }
+    if range.len() <= i {
+        return 0;
+    }
+    range[i]
+}
+
+// The first places of a range, as many as the count says.
+fn entries(range: &[u8], count: usize) -> [u8; SbrGrid::MAX_REL_BORD]
+    ensures { λ r. ⌜ r ≡ first 0 4 (first 0 count (now (range .entry))) ⌝ }
+{
+    [
+        entry(range, count, 0),
+        entry(range, count, 1),
+        entry(range, count, 2),
+        entry(range, count, 3),
+    ]
+}
+
+fn flag(range: &[u8], count: usize, i: usize) -> bool
+    ensures { λ r. ⌜ r ≡ getD (map (λ b. eqb b 1) (first 0 count (now (range .entry)))) i false ⌝ }
+{
+    entry(range, count, i) == MAX_FLAG
+}
+
+// The same as flags.
+pub fn flags(range: &[u8], count: usize) -> [bool; SbrGrid::MAX_NUM_ENV]
+    ensures { λ r. ⌜ r ≡ first false 5 (map (λ b. eqb b 1) (first 0 count (now (range .entry)))) ⌝ }
+{
+    [
+        flag(range, count, 0),
+        flag(range, count, 1),
+        flag(range, count, 2),
+        flag(range, count, 3),
+        flag(range, count, 4),
+    ]
+}
+
+// The record of what was handed in, its flags beside it.
+pub fn record(
+    frame_class: u32,
+    num_env: usize,
+    num_noise: usize,
+    flags: [bool; SbrGrid::MAX_NUM_ENV],
+    var_bord_0: u32,
+    var_bord_1: u32,
+    rel_bord_0: &[u8],
+    num_rel_0: usize,
+    rel_bord_1: &[u8],
+    num_rel_1: usize,
+    pointer: u32,
+) -> SbrGrid
+    requires { ⌜ («var_bord_0» ≤ 255) × («var_bord_1» ≤ 255) × (pointer ≤ 255) ⌝ }
+    ensures { λ r. ⌜ r ≡ madeOf (handed «frame_class» «num_env» «num_noise» [] «var_bord_0» «var_bord_1» (now («rel_bord_0» .entry)) «num_rel_0» (now («rel_bord_1» .entry)) «num_rel_1» pointer) flags ⌝ }
+{
+    SbrGrid {
+        frame_class: FrameClass::from_bits(frame_class),
+        num_env,
+        num_noise,
+        freq_res: flags,
+        var_bord_0: var_bord_0 as u8,
+        var_bord_1: var_bord_1 as u8,
+        rel_bord_0: entries(rel_bord_0, num_rel_0),
+        num_rel_0,
+        rel_bord_1: entries(rel_bord_1, num_rel_1),
+        num_rel_1,
+        pointer: pointer as u8,
+        amp_res_override: false,
+    }
+}
+
+fn bit(flag: bool) -> u8
+    ensures { λ r. ⌜ r ≡ bitN flag ⌝ }
+{
+    flag as u8
+}
+
+// The flags of a record as bytes.
+pub fn flag_bytes(grid: SbrGrid) -> [u8; SbrGrid::MAX_NUM_ENV]
+    ensures { λ r. ⌜ r ≡ map bitN (first false 5 (grid .«freq_res»)) ⌝ }
+{
+    let flags = grid.freq_res;
+    [
+        bit(flags[0]),
+        bit(flags[1]),
+        bit(flags[2]),
+        bit(flags[3]),
+        bit(flags[4]),
+    ]
+}
+
+// The numbers of a record whose counts are those of a frame.
+pub fn numbers(grid: SbrGrid) -> [u32; NUMBERS]
+    requires { ⌜ Few grid ⌝ }
+    ensures { λ r. ⌜ r ≡ numbersOf (viewOf grid) ⌝ }
+{
+    let class = grid.frame_class;
+    [
+        class.to_bits(),
+        grid.num_env as u32,
+        grid.num_noise as u32,
+        grid.var_bord_0 as u32,
+        grid.var_bord_1 as u32,
+        grid.num_rel_0 as u32,
+        grid.num_rel_1 as u32,
+        grid.pointer as u32,
+        bit(grid.amp_res_override) as u32,
+    ]
+}

@@ -1,0 +1,188 @@
+// The calls of the C firmware: plain numbers and ranges of bytes, in and out. Each answers 0, or the number of a refusal, and a
+// refused call leaves everything that was lent as it was.
+use sbr_grid::Answer;
+use sbr_grid::Refusal;
+use sbr_grid::SbrGrid;
+use sbr_reader::Carried;
+use sbr_writer::Written;
+ghost use mathlib.Core.List.{[]};
+ghost use Rattle.sbr_reader.specs.Read.{readGrid};
+ghost use Rattle.sbr_c.specs.Handed.{handed, writeHanded, timeHanded};
+ghost use Rattle.sbr_c.specs.Given.{WriterGives, TimeGives, ReaderGives};
+
+mod form;
+
+// sbr_grid() of a record is written at a bit position, which is moved past it.
+#[no_mangle]
+pub extern "C" fn sbr_write_grid(
+    bytes: &mut [u8],
+    position: &mut u64,
+    frame_class: u32,
+    num_env: u64,
+    freq_res: &[u8],
+    var_bord_0: u32,
+    var_bord_1: u32,
+    rel_bord_0: &[u8],
+    num_rel_0: u64,
+    rel_bord_1: &[u8],
+    num_rel_1: u64,
+    pointer: u32,
+) -> u32
+    ensures { λ r. ⌜ WriterGives (writeHanded (now (bytes .entry)) (now (position .entry)) (handed «frame_class» «num_env» 0 (now («freq_res» .entry)) «var_bord_0» «var_bord_1» (now («rel_bord_0» .entry)) «num_rel_0» (now («rel_bord_1» .entry)) «num_rel_1» pointer)) (now (bytes .entry)) (now (position .entry)) r (now (bytes .exit)) (now (position .exit)) ⌝ }
+{
+    let formed = form::is_formed(
+        frame_class,
+        var_bord_0,
+        var_bord_1,
+        rel_bord_0,
+        num_rel_0 as usize,
+        rel_bord_1,
+        num_rel_1 as usize,
+        pointer,
+    );
+    if !formed {
+        return Refusal::Unwritable.number();
+    }
+    if !form::is_flagged(freq_res, num_env as usize) {
+        return Refusal::Unwritable.number();
+    }
+    let grid = form::record(
+        frame_class,
+        num_env as usize,
+        0,
+        form::flags(freq_res, num_env as usize),
+        var_bord_0,
+        var_bord_1,
+        rel_bord_0,
+        num_rel_0 as usize,
+        rel_bord_1,
+        num_rel_1 as usize,
+        pointer,
+    );
+    let at = *position as usize;
+    match sbr_writer::write_grid(bytes, at, grid) {
+        Written::To(next) => {
+            *position = next as u64;
+            0
+        }
+        Written::Refused(why) => why.number(),
+    }
+}
+
+// The borders, noise borders and mark of a record.
+#[no_mangle]
+pub extern "C" fn sbr_derive_time_grid(
+    num_time_slots: u64,
+    frame_class: u32,
+    num_env: u64,
+    num_noise: u64,
+    var_bord_0: u32,
+    var_bord_1: u32,
+    rel_bord_0: &[u8],
+    num_rel_0: u64,
+    rel_bord_1: &[u8],
+    num_rel_1: u64,
+    pointer: u32,
+    t_e: &mut [u32; 6],
+    t_q: &mut [u32; 3],
+    l_a: &mut i32,
+) -> u32
+    ensures { λ r. ⌜ TimeGives (timeHanded «num_time_slots» (handed «frame_class» «num_env» «num_noise» [] «var_bord_0» «var_bord_1» (now («rel_bord_0» .entry)) «num_rel_0» (now («rel_bord_1» .entry)) «num_rel_1» pointer)) (now («t_e» .entry)) (now («t_q» .entry)) (now («l_a» .entry)) r (now («t_e» .exit)) (now («t_q» .exit)) (now («l_a» .exit)) ⌝ }
+{
+    if !sbr_time_grid::is_slot_count(num_time_slots as usize) {
+        return Refusal::SlotCount.number();
+    }
+    let formed = form::is_formed(
+        frame_class,
+        var_bord_0,
+        var_bord_1,
+        rel_bord_0,
+        num_rel_0 as usize,
+        rel_bord_1,
+        num_rel_1 as usize,
+        pointer,
+    );
+    if !formed {
+        return Refusal::Unwritable.number();
+    }
+    let grid = form::record(
+        frame_class,
+        num_env as usize,
+        num_noise as usize,
+        [false; SbrGrid::MAX_NUM_ENV],
+        var_bord_0,
+        var_bord_1,
+        rel_bord_0,
+        num_rel_0 as usize,
+        rel_bord_1,
+        num_rel_1 as usize,
+        pointer,
+    );
+    let derived = sbr_time_grid::derive_time_grid(grid, num_time_slots as usize);
+    let answer = derived.answer;
+    match answer {
+        Answer::Given => {
+            let time = derived.time;
+            let borders = time.t_e;
+            let noise = time.t_q;
+            let mark = time.l_a;
+            *t_e = borders;
+            *t_q = noise;
+            *l_a = mark;
+            0
+        }
+        Answer::Refused(why) => why.number(),
+    }
+}
+
+// The frame at a bit position: record, time grid, the position after it and its last border.
+#[no_mangle]
+pub extern "C" fn sbr_read_grid(
+    bytes: &[u8],
+    num_time_slots: u64,
+    position: &mut u64,
+    border: &mut i32,
+    numbers: &mut [u32; 9],
+    freq_res: &mut [u8; 5],
+    rel_bord_0: &mut [u8; 4],
+    rel_bord_1: &mut [u8; 4],
+    t_e: &mut [u32; 6],
+    t_q: &mut [u32; 3],
+    l_a: &mut i32,
+) -> u32
+    ensures { λ r. ⌜ ReaderGives (readGrid (now (bytes .entry)) (now (position .entry)) «num_time_slots» (now (border .entry))) (record { position = now (position .entry); border = now (border .entry); numbers = now (numbers .entry); flags = now («freq_res» .entry); rel0 = now («rel_bord_0» .entry); rel1 = now («rel_bord_1» .entry); borders = now («t_e» .entry); noise = now («t_q» .entry); mark = now («l_a» .entry) }) r (record { position = now (position .exit); border = now (border .exit); numbers = now (numbers .exit); flags = now («freq_res» .exit); rel0 = now («rel_bord_0» .exit); rel1 = now («rel_bord_1» .exit); borders = now («t_e» .exit); noise = now («t_q» .exit); mark = now («l_a» .exit) }) ⌝ }
+{
+    let at = *position as usize;
+    let before = *border;
+    let read = sbr_reader::read_grid(
+        bytes,
+        at,
+        num_time_slots as usize,
+        Carried { border: before },
+    );
+    let answer = read.answer;
+    match answer {
+        Answer::Given => {
+            let grid = read.grid;
+            let times = read.time;
+            let carried = read.carried;
+            let last = carried.border;
+            let rel_0 = grid.rel_bord_0;
+            let rel_1 = grid.rel_bord_1;
+            let borders = times.t_e;
+            let noise = times.t_q;
+            let marked = times.l_a;
+            *position = read.position as u64;
+            *border = last;
+            *numbers = form::numbers(grid);
+            *freq_res = form::flag_bytes(grid);
+            *rel_bord_0 = rel_0;
+            *rel_bord_1 = rel_1;
+            *t_e = borders;
+            *t_q = noise;
+            *l_a = marked;
+            0
+        }
+        Answer::Refused(why) => why.number(),
+    }
+}

@@ -1,0 +1,51 @@
+/* Writes two frames, reads them back and prints what was read. */
+#include "sbr_grid.h"
+
+#include <inttypes.h>
+#include <stdio.h>
+
+static const char *const CLASSES[] = {"FixFix", "FixVar", "VarFix", "VarVar"};
+
+static int refused(const char *call, uint32_t number)
+{
+    printf("%s refused %" PRIu32 "\n", call, number);
+    return 1;
+}
+
+int main(void)
+{
+    uint8_t bytes[8] = {0};
+    uint64_t at = 0;
+
+    /* one envelope of high resolution; then an attack at slot 10: envelopes 0..10, 10..12, 12..16 */
+    const uint8_t high[1] = {1}, low[3] = {0, 0, 0}, trailing[2] = {1, 0}, none[1] = {0};
+    uint32_t r = sbr_write_grid(bytes, sizeof bytes, &at, SBR_FIXFIX, 1, high, 1, 0, 0, none, 1, 0, none, 1, 0, 0);
+    if (r != 0)
+        return refused("write", r);
+    r = sbr_write_grid(bytes, sizeof bytes, &at, SBR_FIXVAR, 3, low, 3, 0, 0, none, 1, 0, trailing, 2, 2, 3);
+    if (r != 0)
+        return refused("write", r);
+    printf("%" PRIu64 " bits: %02X %02X %02X\n", at, bytes[0], bytes[1], bytes[2]);
+
+    uint64_t position = 0;
+    int32_t border = 16;
+    for (int frame = 0; frame < 2; frame++) {
+        uint32_t numbers[SBR_NUMBERS], t_e[SBR_MAX_BORDERS], t_q[SBR_MAX_NOISE_BORDERS];
+        uint8_t freq_res[SBR_MAX_ENVELOPES], rel_0[SBR_MAX_REL_BORD], rel_1[SBR_MAX_REL_BORD];
+        int32_t mark;
+        r = sbr_read_grid(bytes, sizeof bytes, 16, &position, &border, numbers, freq_res, rel_0, rel_1, t_e, t_q, &mark);
+        if (r != 0)
+            return refused("read", r);
+        printf("frame %d: %s, borders", frame, CLASSES[numbers[SBR_FRAME_CLASS]]);
+        for (uint32_t i = 0; i <= numbers[SBR_NUM_ENV]; i++)
+            printf(" %" PRIu32, t_e[i]);
+        printf(", noise borders");
+        for (uint32_t i = 0; i <= numbers[SBR_NUM_NOISE]; i++)
+            printf(" %" PRIu32, t_q[i]);
+        printf(", mark %" PRId32 ", resolutions ", mark);
+        for (uint32_t i = 0; i < numbers[SBR_NUM_ENV]; i++)
+            putchar(freq_res[i] ? 'H' : 'L');
+        printf("; next position %" PRIu64 ", border %" PRId32 "\n", position, border);
+    }
+    return 0;
+}

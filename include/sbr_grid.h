@@ -1,0 +1,117 @@
+/*
+ * The SBR time grid for a C host: reading and writing sbr_grid() (ISO/IEC 14496-3, Table 4.69) and its time grid (4.6.18.3.3).
+ *
+ * Link with the static library that `rt staticlib sbr_c` makes (target/staticlib/libsbr_c.a).
+ *
+ * Every call answers 0 for a full result, or the number of a refusal (SBR_REFUSED_..). A refused call leaves everything that was
+ * lent to it as it was. Any number may be handed in. What the caller answers for: a pointer is valid for the length or the fixed
+ * size beside it (a range of length 0 needs a pointer that is not null), and the ranges lent to one call do not overlap.
+ *
+ * A range is a pointer and a length. Bit positions count from the first bit of a range, most significant bit of a byte first.
+ */
+#ifndef SBR_GRID_H
+#define SBR_GRID_H
+
+#include <stddef.h>
+#include <stdint.h>
+
+#ifdef __cplusplus
+extern "C" {
+#endif
+
+/* Numbers of refusals. */
+enum {
+    SBR_REFUSED_SLOT_COUNT = 1, /* the slot count is neither 15 nor 16 */
+    SBR_REFUSED_SAMPLES = 2,    /* too few samples */
+    SBR_REFUSED_TABLES = 3,     /* the band tables */
+    SBR_REFUSED_ROOM = 4,       /* too little room for what is to be written; a position past the end is this */
+    SBR_REFUSED_RECORD = 5,     /* a record that sbr_grid() can't carry or that can't be formed of what was handed in */
+    SBR_REFUSED_TIME_GRID = 6,  /* a record that has no time grid */
+    SBR_REFUSED_BITS_END = 7,   /* the bits end before a field is complete, or the position lies past them */
+    SBR_REFUSED_COUNT = 8,      /* FIXFIX code 3, or VARVAR with more than 5 envelopes */
+    SBR_REFUSED_CHAIN = 9       /* the frame does not begin where the one before it ended */
+};
+
+/* Frame classes (bs_frame_class). */
+enum { SBR_FIXFIX = 0, SBR_FIXVAR = 1, SBR_VARFIX = 2, SBR_VARVAR = 3 };
+
+/* Limits of a record. */
+enum {
+    SBR_MAX_ENVELOPES = 5,    /* envelopes; there is one border more */
+    SBR_MAX_REL_BORD = 4,     /* entries of a list of relative lengths */
+    SBR_MAX_BORDERS = 6,
+    SBR_MAX_NOISE_BORDERS = 3
+};
+
+/* Places in the numbers that sbr_read_grid gives. */
+enum {
+    SBR_FRAME_CLASS = 0,
+    SBR_NUM_ENV = 1,   /* bs_num_env: how many of freq_res, and of t_e less one, are in use */
+    SBR_NUM_NOISE = 2, /* bs_num_noise: how many of t_q less one are in use */
+    SBR_VAR_BORD_0 = 3,
+    SBR_VAR_BORD_1 = 4,
+    SBR_NUM_REL_0 = 5, /* how many of rel_bord_0 are in use */
+    SBR_NUM_REL_1 = 6, /* how many of rel_bord_1 are in use */
+    SBR_POINTER = 7,
+    SBR_AMP_RES_OVERRIDE = 8, /* 1 for a single FIXFIX envelope: bs_amp_res is 0 for this frame */
+    SBR_NUMBERS = 9
+};
+
+/*
+ * Writes sbr_grid() of a record at a bit position and moves the position past it. Every other bit is kept.
+ * Refused by 5, then 4.
+ *
+ * bytes, bytes_len          where the bits go
+ * position                  bit position; moved past the last bit written
+ * frame_class               0 to 3
+ * num_env                   envelopes, 1 to 5
+ * freq_res, freq_res_len    a byte for each envelope: 1 for high resolution, 0 for low; more are unread
+ * var_bord_0, var_bord_1    border bytes, 0 to 3 (also the one that the class does not send)
+ * rel_bord_0, .._len        stored relative lengths of the leading side, 0 to 3 each (r means 2 r + 2 slots); more are unread
+ * num_rel_0                 how many of them are in use
+ * rel_bord_1, .._len, num_rel_1    the same for the trailing side, the last envelope's first
+ * pointer                   bs_pointer, at most num_env
+ */
+uint32_t sbr_write_grid(uint8_t *bytes, size_t bytes_len, uint64_t *position, uint32_t frame_class, uint64_t num_env,
+                        const uint8_t *freq_res, size_t freq_res_len, uint32_t var_bord_0, uint32_t var_bord_1,
+                        const uint8_t *rel_bord_0, size_t rel_bord_0_len, uint64_t num_rel_0, const uint8_t *rel_bord_1,
+                        size_t rel_bord_1_len, uint64_t num_rel_1, uint32_t pointer);
+
+/*
+ * The time grid of a record. Refused by 1, then 5 (a class above 3, a border or a pointer above 255, a list shorter than its
+ * count), then 6.
+ *
+ * num_time_slots    15 or 16
+ * num_noise         1 for one envelope, 2 for more
+ * t_e               num_env + 1 borders, in slots; the other places are 0
+ * t_q               num_noise + 1 noise borders; the other places are 0
+ * l_a               the marked envelope, -1 for none
+ * The others are as in sbr_write_grid.
+ */
+uint32_t sbr_derive_time_grid(uint64_t num_time_slots, uint32_t frame_class, uint64_t num_env, uint64_t num_noise,
+                              uint32_t var_bord_0, uint32_t var_bord_1, const uint8_t *rel_bord_0, size_t rel_bord_0_len,
+                              uint64_t num_rel_0, const uint8_t *rel_bord_1, size_t rel_bord_1_len, uint64_t num_rel_1,
+                              uint32_t pointer, uint32_t t_e[6], uint32_t t_q[3], int32_t *l_a);
+
+/*
+ * Reads the frame at a bit position. Refused by 1, then 7 or 8 as fields come, then 6, then 9.
+ *
+ * bytes, bytes_len    where the bits are; they end with the last byte
+ * num_time_slots      15 or 16
+ * position            bit position; moved past the frame
+ * border              the last border of the frame before (the slot count for a first frame without a lead); the last border
+ *                     of this frame after it
+ * numbers             the record's numbers, by the places above
+ * freq_res            a byte for each envelope, 1 for high resolution; the other places are 0
+ * rel_bord_0, rel_bord_1    stored relative lengths; the other places are 0
+ * t_e, t_q, l_a       the time grid, as in sbr_derive_time_grid
+ */
+uint32_t sbr_read_grid(const uint8_t *bytes, size_t bytes_len, uint64_t num_time_slots, uint64_t *position, int32_t *border,
+                       uint32_t numbers[9], uint8_t freq_res[5], uint8_t rel_bord_0[4], uint8_t rel_bord_1[4],
+                       uint32_t t_e[6], uint32_t t_q[3], int32_t *l_a);
+
+#ifdef __cplusplus
+}
+#endif
+
+#endif
