@@ -21,7 +21,7 @@ pub struct Window {
 }
 
 // The position past the last bit of `len` bytes, or the largest position where that is less.
-pub fn end_of(len: usize) -> usize
+fn end_of(len: usize) -> usize
     ensures { λ r. ⌜ r ≡ endOf len ⌝ }
 {
     if len <= 0x1fff_ffff_ffff_ffff {
