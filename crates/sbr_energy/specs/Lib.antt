@@ -1,0 +1,2 @@
+pub mod Floats
+pub mod Energy

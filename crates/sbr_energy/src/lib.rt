@@ -1,0 +1,80 @@
+// Energies of samples, and the operations on numbers of 64 bits that elections and energies use: src/sbr_encoder.rs.
+ghost use mathlib.Core.Path.{_≡_};
+ghost use Prim.Native.Nat.{ℕ, _+_, _-_, _*_, _≤_, _<_};
+ghost use lib.ListN.{length};
+ghost use Rattle.sbr_qmf.specs.Qmf.{columns};
+ghost use Rattle.sbr_energy.specs.Floats.{maxOf, minOf, meanOf, spreadIsHigh};
+ghost use Rattle.sbr_energy.specs.Energy.{slotEnergies, bandMean};
+
+mod sums;
+
+// The larger number; a NaN is passed over.
+pub fn max(a: f64, b: f64) -> f64
+    ensures { λ r. ⌜ r ≡ maxOf a b ⌝ }
+{
+    if a < b {
+        b
+    } else if a != a {
+        b
+    } else {
+        a
+    }
+}
+
+// The smaller number; a NaN is passed over.
+pub fn min(a: f64, b: f64) -> f64
+    ensures { λ r. ⌜ r ≡ minOf a b ⌝ }
+{
+    if b < a {
+        b
+    } else if a != a {
+        b
+    } else {
+        a
+    }
+}
+
+// A sum over a count.
+pub fn mean(sum: f64, count: u32) -> f64
+    ensures { λ r. ⌜ r ≡ meanOf sum count ⌝ }
+{
+    sum / count as f64
+}
+
+// The largest number whose fifth power does not exceed 1,000: about 10 to the power 0.6.
+const SPREAD: f64 = 3.9810717055349722;
+
+// Whether a quotient of band means counts as spread: its fifth power exceeds 1,000.
+pub fn spread_is_high(quotient: f64) -> bool
+    ensures { λ r. ⌜ r ≡ spreadIsHigh quotient ⌝ }
+{
+    quotient > SPREAD
+}
+
+// The energies of the first n slots over the bands kl to kh; the places past them are 0.0.
+pub fn slot_energies(x: &[f64], n: usize, kl: usize, kh: usize) -> [f64; 24]
+    requires { ⌜ (n ≤ 24) × (kl ≤ kh) × (kh ≤ 64) × ((2 * n + 2) * 128 ≤ length (now x)) ⌝ }
+    ensures { λ r. ⌜ r ≡ slotEnergies (columns (now (x .entry))) kl kh n ⌝ }
+{
+    let mut out = [0.0; 24];
+    for s in 0..n {
+        let pair = sums::band_sums(x, kl, kh, 2 * s + 2);
+        out[s] = 0.0 + pair.a + pair.b;
+    }
+    out
+}
+
+// The mean of the bands kl to kh over the slots t0 to t1.
+pub fn band_mean(x: &[f64], t0: usize, t1: usize, kl: usize, kh: usize) -> f64
+    requires { ⌜ (t0 ≤ t1) × (t1 ≤ 24) × (kl ≤ kh) × (kh ≤ 64) × ((2 * t1 + 2) * 128 ≤ length (now x)) ⌝ }
+    ensures { λ r. ⌜ r ≡ bandMean (columns (now (x .entry))) t0 t1 kl kh ⌝ }
+{
+    let first = 2 * t0 + 2;
+    let mut acc = 0.0;
+    for i in 0..t1 - t0 {
+        let pair = sums::band_sums(x, kl, kh, first + 2 * i);
+        acc = acc + pair.a + pair.b;
+    }
+    let columns = 2 * t1 + 2 - first;
+    mean(acc, (columns * (kh - kl)) as u32)
+}

@@ -1,0 +1,19 @@
+-- Samples of the analysis filter bank: document 01, "Corners", src/sbr_qmf.rs, and "Forms", `&[[Complex; 64]]`.
+use mathlib.Core.List.{List}
+use Prim.Native.Nat.{ℕ, _+_, _*_}
+use lib.ListN.{getD}
+use lib.Ieee as Ieee
+use lib.Ieee.{Float, nan, binary64}
+use Rattle.sbr_qmf.specs.declared.Complex.{Complex}
+
+-- re × re + im × im, one rounding each
+abbrev pub normSqr : Complex → Float
+normSqr z = Ieee.add binary64 (Ieee.mul binary64 (z .re) (z .re)) (Ieee.mul binary64 (z .im) (z .im))
+
+-- the sample of each column and band
+abbrev pub Samples : Type 0
+Samples = ℕ → ℕ → Complex
+
+-- where a lent slice has them: 64 bands a column, a pair of doubles each
+unfoldable pub columns : List Float → Samples
+columns x c k = record { re = getD x ((c * 64 + k) * 2) nan; im = getD x ((c * 64 + k) * 2 + 1) nan }
