@@ -6,12 +6,9 @@ use lib.IntN.{pos}
 use lib.Ieee as Ieee
 use lib.Ieee.{Float, fin, inf, nan, binary64, ofBits, up, down}
 
--- 0.0, 64.0
+-- 0.0
 abbrev pub zero64 : Float
 zero64 = ofBits binary64 0
-
-abbrev pub sixtyFour : Float
-sixtyFour = ofBits binary64 0x4050_0000_0000_0000
 
 -- f64::max and f64::min: where one is a NaN the other one is taken
 abbrev pub maxOf : Float → Float → Float

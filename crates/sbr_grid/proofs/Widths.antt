@@ -10,7 +10,7 @@ use native.Mathlib.Decide.{decLe}
 use borrow.Author.Tests.{le-leb, lt-leb}
 use lib.Dec.{leb}
 use lib.ListN.{getD}
-use Rattle.sbr_grid.specs.Grid.{widthFrom, ptrBits, CeilLog, tableWidth}
+use Rattle.sbr_grid.specs.Grid.{widthFrom, ptrBits, CeilLog, PointerWidth, tableWidth}
 
 -- every width below k, and k itself, is too narrow
 under : (k n : ℕ) → ((j : ℕ) → j < k → 2 ^ j < n + 1) → 2 ^ k < n + 1 → (j : ℕ) → j < suc k → Dec (suc j ≤ k) → 2 ^ j < n + 1
@@ -39,7 +39,7 @@ pow-above zero = omega arith
 pow-above (suc n) = omega (arith, pow-above n, pow-suc 2 n)
 
 -- ptrBits n is ceil(log2(n + 1))
-pub ptr-bits-log : (n : ℕ) → CeilLog n (ptrBits n)
+pub ptr-bits-log : PointerWidth
 ptr-bits-log n = width-from n 0 n (λ j l. absurd (omega arith)) (rw (native.Mathlib.Nat.zero-add) (pow-above n))
 
 pub width-none : (n : ℕ) → n ≡ 0 → 0 ≡ tableWidth n

@@ -31,10 +31,13 @@ widthFrom (suc d) k n = cond (leb (n + 1) (2 ^ k)) k (widthFrom d (suc k) n)
 abbrev pub ptrBits : ℕ → ℕ
 ptrBits n = widthFrom n 0 n
 
--- what that means of a width r: the statement that the table of widths is held to
+-- what that means of a width r, and that it holds of every count: proved in proofs/Widths.antt
 pub record CeilLog (n r : ℕ) : Type 0 where
   pub holds : n + 1 ≤ 2 ^ r
   pub least : (k : ℕ) → n + 1 ≤ 2 ^ k → r ≤ k
+
+abbrev pub PointerWidth : Type 0
+PointerWidth = (n : ℕ) → CeilLog n (ptrBits n)
 
 -- the width that the program's table has: that of 1 to 5 envelopes, 0 for any other count
 unfoldable pub tableWidth : ℕ → ℕ
