@@ -1,21 +1,40 @@
--- Laws of the record that is formed of what C hands in: it answers as the record that is meant.
-use mathlib.Core.Path.{_≡_, refl, sym, ap}
-use mathlib.Core.Bool.{Bool, true, false}
+-- Laws of the record that is formed of what C hands in, which answers as the record that is meant, and of what C is given of a record.
+use mathlib.Core.Path.{_≡_, refl, sym, ap, _∙_}
+use mathlib.Core.Bool.{Bool, true, false, cond, and-eq-true-iff}
 use mathlib.Core.List.{List, [], _∷_, map}
 use Prim.Native.Nat.{ℕ, zero, suc, _≤_, _<_}
 use native.Mathlib.Omega.{arith}
-use borrow.Author.Tests.{le-leb}
-use lib.Dec.{leb, eqb}
-use lib.ListN.{length, getD, drop, length-map, List·getD-eq-default}
+use borrow.Author.Tests.{leb-true, le-leb}
+use lib.Dec.{leb}
+use lib.ListN.{length, getD, drop, List·getD-eq-default}
 use lib.Seq.{drop-nil}
+use Rattle.bits.specs.Bits.{bitN}
+use Rattle.sbr_grid.specs.declared.SbrGrid.{SbrGrid}
+use Rattle.sbr_grid.specs.declared.Refusal.the-variants.{SlotCount, Unwritable, TimeGrid}
+use Rattle.sbr_grid.specs.Refusals.{refused}
 use Rattle.sbr_grid.specs.Grid.{first, viewOf, recordOf, Grid, numEnv}
 use Rattle.sbr_grid.proofs.Laws.{length-first, getD-first, view-record, lengths}
-use Rattle.sbr_time_grid.specs.TimeGrid.{countsFit, timeGrid}
+use Rattle.sbr_time_grid.specs.TimeGrid.{slotCount, countsFit, timeGrid}
 use Rattle.sbr_time_grid.proofs.Laws.{counts}
-use Rattle.sbr_writer.specs.Write.{every, fieldsFit, writeGrid}
+use Rattle.sbr_writer.specs.Write.{fieldsFit, writeGrid}
 use Rattle.sbr_writer.proofs.Facts.{fields-told}
-use Rattle.sbr_c.specs.Handed.{Handed, handed, gridFrom, flagged}
-use Rattle.sbr_c.specs.Form.{madeOf, flagsHeld}
+use Rattle.sbr_c.specs.declared.form.Handed.{Handed}
+use Rattle.sbr_c.specs.Handed.{formed}
+use Rattle.sbr_c.specs.Given.{numbersOf, recordOut}
+use Rattle.sbr_c.specs.Form.{Bytes}
+
+-- the numbers that C hands in, in the order of its calls
+abbrev pub handed : ℕ → ℕ → ℕ → ℕ → ℕ → ℕ → ℕ → ℕ → Handed
+handed class n noise b0 b1 n0 n1 p = record {
+  «frame_class» = class;
+  «num_env» = n;
+  «num_noise» = noise;
+  «var_bord_0» = b0;
+  «var_bord_1» = b1;
+  «num_rel_0» = n0;
+  «num_rel_1» = n1;
+  pointer = p;
+}
 
 -- past the count there is nothing
 pub first-past : {A : Type 0} (d : A) (n i : ℕ) (xs : List A) → n ≤ i → d ≡ getD (first d n xs) i d
@@ -41,57 +60,74 @@ pub places-first : {A : Type 0} (d : A) (n i : ℕ) (xs : List A) → places d i
 places-first d zero i xs = refl
 places-first d (suc n) i xs = rw (places-first d n (suc i) xs) (place d n i xs)
 
--- flags that are not handed in are low
-pub no-flags : (m n : ℕ) → first false m (map (λ b. eqb b 1) (first 0 n [])) ≡ first false m []
-no-flags zero n = refl
-no-flags (suc m) zero = refl
-no-flags (suc m) (suc n) = ap {B = List _} (λ t. false ∷ t) (no-flags m n)
+-- all that the test of what was handed in asks for, but that the trailing list has its count
+pub record Formed (h : Handed) (rel0 : List ℕ) : Type 0 where
+  pub class : h .«frame_class» ≤ 3
+  pub bytes : Bytes h
+  pub leading : h .«num_rel_0» ≤ length rel0
 
--- flags that there are places for can be formed where each of them can
-pub held-by : (n : ℕ) (xs : List ℕ) (b : Bool) → n ≤ 5 → n ≤ length xs → b ≡ every (λ f. leb f 1) (first 0 n xs)
-    → b ≡ flagsHeld (handed 0 n 0 xs 0 0 [] 0 [] 0 0)
-unfolding flagged
-held-by n xs b h k e = rw (le-leb n 5 h, le-leb n (length xs) k) e
+-- the test asks for them
+pub formed-told : (h : Handed) (rel0 rel1 : List ℕ) → formed h rel0 rel1 ≡ true → Formed h rel0
+unfolding formed
+formed-told h rel0 rel1 e = let p = simp and-eq-true-iff at e in omega (arith, leb-true, p)
 
--- the record that is formed is that of the view that is meant
-pub made-record : (h : Handed) (fl : List Bool) → fl ≡ first false 5 (map (λ b. eqb b 1) (first 0 (h .numEnv) (h .flags)))
-    → madeOf h fl ≡ recordOf (gridFrom h)
-made-record h fl e =
-    rw (
-      e,
-      length-map (first 0 (h .numEnv) (h .flags)) (λ b. eqb b 1),
-      length-first 0 (h .numEnv) (h .flags),
-      length-first 0 (h .numRel0) (h .rel0),
-      length-first 0 (h .numRel1) (h .rel1),
-    )
+-- and, where they hold, for no more than the trailing list
+pub formed-last : (h : Handed) (rel0 rel1 : List ℕ) → Formed h rel0 → leb (h .«num_rel_1») (length rel1) ≡ formed h rel0 rel1
+unfolding formed
+formed-last h rel0 rel1 f =
+    let b = f .bytes in
+    rw (le-leb _ 3 (f .class), le-leb _ 255 (b .bord0), le-leb _ 255 (b .bord1), le-leb _ 255 (b .pointer), le-leb _ _ (f .leading))
 
--- a record within which the view of a grid has room, has it whole
-view-same : (g : Grid) → numEnv (viewOf (recordOf g)) ≤ 5 → length (viewOf (recordOf g) .relBord0) ≤ 4
-    → length (viewOf (recordOf g) .relBord1) ≤ 4 → viewOf (recordOf g) ≡ g
-view-same g a b c = let l = lengths (recordOf g) in view-record g (omega arith) (omega arith) (omega arith)
+-- the lists of a grid are within a record
+pub record Within (g : Grid) : Type 0 where
+  pub env : numEnv g ≤ 5
+  pub rel0 : length (g .relBord0) ≤ 4
+  pub rel1 : length (g .relBord1) ≤ 4
 
--- the next law, by the tests of the two views
-write-by : (l : List ℕ) (p : ℕ) (g : Grid) (a b : Bool) → fieldsFit g ≡ a → fieldsFit (viewOf (recordOf g)) ≡ b
-    → writeGrid l p (viewOf (recordOf g)) ≡ writeGrid l p g
+module _ {X : Type 0} (f : Grid → X) (x : X) (t : Grid → Bool) (within : (g : Grid) → t g ≡ true → Within g) (else : (g : Grid) → t g ≡ false → f g ≡ x) where
+  -- the next law, by the tests of the grid and of the view of its record
+  same-by : (g : Grid) (a b : Bool) → t g ≡ a → t (viewOf (recordOf g)) ≡ b → f (viewOf (recordOf g)) ≡ f g
+  same-by g true b e k = let w = within g e in ap f (view-record g (w .env) (w .rel0) (w .rel1))
+  same-by g false true e k =
+      let w = within (viewOf (recordOf g)) k in
+      let l = lengths (recordOf g) in
+      ap f (view-record g (omega arith) (omega arith) (omega arith))
+  same-by g false false e k = else (viewOf (recordOf g)) k ∙ sym (else g e)
+
+  -- a function that gives one value where the lists may not be within a record sees no difference between a grid and its record
+  pub same : (g : Grid) → f (viewOf (recordOf g)) ≡ f g
+  same g = same-by g _ _ refl refl
+
+-- the writer refuses a grid whose fields don't fit
+write-else : (l : List ℕ) (p : ℕ) (g : Grid) → fieldsFit g ≡ false → writeGrid l p g ≡ refused Unwritable
 unfolding writeGrid
-write-by l p g true b e f = let t = fields-told g e in ap (writeGrid l p) (view-record g (t .most) (t .rel0) (t .rel1))
-write-by l p g false true e f =
-    let t = fields-told (viewOf (recordOf g)) f in ap (writeGrid l p) (view-same g (t .most) (t .rel0) (t .rel1))
-write-by l p g false false e f = rw (e, f)
+write-else l p g e = rw e
 
--- a grid is written alike from its record, also where it exceeds the record
+-- a grid is written alike from its record
 pub write-same : (l : List ℕ) (p : ℕ) (g : Grid) → writeGrid l p (viewOf (recordOf g)) ≡ writeGrid l p g
-write-same l p g = write-by l p g _ _ refl refl
+write-same l p g =
+    same (writeGrid l p) (refused Unwritable) fieldsFit (λ g e. let t = fields-told g e in record { env = t .most; rel0 = t .rel0; rel1 = t .rel1 }) (write-else l p) g
 
--- the next law, by the tests of the two views
-time-by : (n : ℕ) (g : Grid) (a b : Bool) → countsFit g ≡ a → countsFit (viewOf (recordOf g)) ≡ b
-    → timeGrid n (viewOf (recordOf g)) ≡ timeGrid n g
+-- a grid whose counts don't fit is refused by the slot count, or has no time grid
+time-else : (n : ℕ) (g : Grid) → countsFit g ≡ false → timeGrid n g ≡ cond (slotCount n) (refused TimeGrid) (refused SlotCount)
 unfolding timeGrid
-time-by n g true b e f = let t = counts g e in ap (timeGrid n) (view-record g (t .few) (t .few0) (t .few1))
-time-by n g false true e f =
-    let t = counts (viewOf (recordOf g)) f in ap (timeGrid n) (view-same g (t .few) (t .few0) (t .few1))
-time-by n g false false e f = rw (e, f)
+time-else n g e = rw e
 
--- and has the same time grid
+-- a grid and its record have the same time grid
 pub time-same : (n : ℕ) (g : Grid) → timeGrid n (viewOf (recordOf g)) ≡ timeGrid n g
-time-same n g = time-by n g _ _ refl refl
+time-same n g =
+    same (timeGrid n) _ countsFit (λ g e. let t = counts g e in record { env = t .few; rel0 = t .few0; rel1 = t .few1 }) (time-else n) g
+
+-- padding what is padded changes nothing
+first-again : {A : Type 0} (d : A) (n : ℕ) (xs : List A) → first d n (first d n xs) ≡ first d n xs
+first-again d zero xs = refl
+first-again d (suc n) [] = ap {B = List _} (λ t. d ∷ t) (first-again d n [])
+first-again d (suc n) (x ∷ xs) = ap {B = List _} (λ t. x ∷ t) (first-again d n xs)
+
+-- what a program gives of a record
+abbrev pub shown : SbrGrid → List ℕ × List ℕ × List ℕ × List ℕ
+shown g = (numbersOf (viewOf g), map bitN (first false 5 (g .«freq_res»)), g .«rel_bord_0», g .«rel_bord_1»)
+
+-- that is the whole grid
+pub shown-record : (g : Grid) → shown (recordOf g) ≡ recordOut g
+shown-record g = let k = lengths (recordOf g) in rw (k .env, k .rel0, k .rel1, first-again false 5 (g .freqRes))

@@ -1,6 +1,6 @@
 -- What C is given: 0, or the number of a refusal; and the values of an answer in single numbers and fixed arrays.
 use mathlib.Core.Path.{_≡_}
-use mathlib.Core.Bool.{Bool, true, false}
+use mathlib.Core.Bool.{false}
 use mathlib.Core.List.{List, [], _∷_, map}
 use Prim.Native.Nat.{ℕ}
 use lib.IntN.{ℤ, pos}
@@ -9,12 +9,17 @@ use Rattle.bits.specs.Bits.{bitN}
 use Rattle.sbr_grid.specs.Refusals.{Outcome, answered, refused, numberOf, valueOr}
 use Rattle.sbr_grid.specs.Grid.{classCode, first, Grid}
 use Rattle.sbr_time_grid.specs.TimeGrid.{Times}
-use Rattle.sbr_writer.specs.Write.{Wrote, bytesAfter}
+use Rattle.sbr_writer.specs.Write.{Wrote}
 use Rattle.sbr_reader.specs.Read.{Frame}
 
 abbrev pub codeOf : {A : Type 0} → Outcome A → ℕ
 codeOf (answered a) = 0
 codeOf (refused e) = numberOf e
+
+-- what a call that comes to o leaves: its number r, and its outputs, which are as before where it is refused
+pub record Gives {A B : Type 0} (o : Outcome A) (f : A → B) (before : B) (r : ℕ) (after : B) : Type 0 where
+  pub code : r ≡ codeOf o
+  pub outputs : after ≡ valueOr f before o
 
 -- class, envelopes, noise floors, border bytes, counts of the lists, pointer, amplitude override
 abbrev pub numbersOf : Grid → List ℕ
@@ -22,50 +27,18 @@ numbersOf g =
     classCode (g .frameClass) ∷ length (g .freqRes) ∷ g .numNoise ∷ g .varBord0 ∷ g .varBord1 ∷ length (g .relBord0)
     ∷ length (g .relBord1) ∷ g .pointer ∷ bitN (g .ampOverride) ∷ []
 
--- flags as bytes, 1 for high; places past the envelopes are 0
-abbrev pub flagBytes : Grid → List ℕ
-flagBytes g = map bitN (first false 5 (g .freqRes))
+-- a record: its numbers, its flags as bytes (1 for high), its lists; places past a count are 0
+abbrev pub recordOut : Grid → List ℕ × List ℕ × List ℕ × List ℕ
+recordOut g = (numbersOf g, map bitN (first false 5 (g .freqRes)), first 0 4 (g .relBord0), first 0 4 (g .relBord1))
 
--- what the writer answers, and what bytes and position are after it
-pub record WriterGives (o : Outcome Wrote) (l : List ℕ) (p : ℕ) (r : ℕ) (m : List ℕ) (q : ℕ) : Type 0 where
-  pub code : r ≡ codeOf o
-  pub bytes : m ≡ bytesAfter l o
-  pub position : q ≡ valueOr (λ w. w .position) p o
+-- a write: the bytes and the position after it
+abbrev pub writeOut : Wrote → List ℕ × ℕ
+writeOut w = (w .bytes, w .position)
 
--- what the time grid answers, and what its outputs are after it
-pub record TimeGives (o : Outcome Times) (e q : List ℕ) (a : ℤ) (r : ℕ) (e' q' : List ℕ) (a' : ℤ) : Type 0 where
-  pub code : r ≡ codeOf o
-  pub borders : e' ≡ valueOr (λ t. first 0 6 (t .tE)) e o
-  pub noise : q' ≡ valueOr (λ t. first 0 3 (t .tQ)) q o
-  pub mark : a' ≡ valueOr (λ t. t .lA) a o
+-- a time grid: its borders, its noise borders, its mark
+abbrev pub timeOut : Times → List ℕ × List ℕ × ℤ
+timeOut t = (first 0 6 (t .tE), first 0 3 (t .tQ), t .lA)
 
--- the outputs of the reader
-pub record Outputs : Type 0 where
-  pub position : ℕ
-  pub border : ℤ
-  pub numbers : List ℕ
-  pub flags : List ℕ
-  pub rel0 : List ℕ
-  pub rel1 : List ℕ
-  pub borders : List ℕ
-  pub noise : List ℕ
-  pub mark : ℤ
-
--- those of an accepted frame
-abbrev pub outputsOf : Frame → Outputs
-outputsOf f = record {
-  position = f .position;
-  border = pos (f .border);
-  numbers = numbersOf (f .grid);
-  flags = flagBytes (f .grid);
-  rel0 = first 0 4 (f .grid .relBord0);
-  rel1 = first 0 4 (f .grid .relBord1);
-  borders = first 0 6 (f .time .tE);
-  noise = first 0 3 (f .time .tQ);
-  mark = f .time .lA;
-}
-
--- what the reader answers, and what its outputs are after it
-pub record ReaderGives (o : Outcome Frame) (before : Outputs) (r : ℕ) (after : Outputs) : Type 0 where
-  pub code : r ≡ codeOf o
-  pub outputs : after ≡ valueOr outputsOf before o
+-- a frame: the position after it, its last border, its record and its time grid
+abbrev pub frameOut : Frame → ℕ × ℤ × (List ℕ × List ℕ × List ℕ × List ℕ) × (List ℕ × List ℕ × ℤ)
+frameOut f = (f .position, pos (f .border), recordOut (f .grid), timeOut (f .time))

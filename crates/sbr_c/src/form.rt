@@ -8,10 +8,10 @@ ghost use Prim.Native.Nat.{_≤_};
 ghost use lib.Dec.{eqb};
 ghost use lib.ListN.{getD};
 ghost use Rattle.bits.specs.Bits.{bitN};
-ghost use Rattle.sbr_grid.specs.Grid.{first, viewOf};
-ghost use Rattle.sbr_c.specs.Handed.{handed, formed};
+ghost use Rattle.sbr_grid.specs.Grid.{first, viewOf, recordOf};
+ghost use Rattle.sbr_c.specs.Handed.{gridFrom, formed, flagged};
 ghost use Rattle.sbr_c.specs.Given.{numbersOf};
-ghost use Rattle.sbr_c.specs.Form.{madeOf, flagsHeld, Few};
+ghost use Rattle.sbr_c.specs.Form.{Bytes, Few};
 
 // How many numbers C is given of a record.
 const NUMBERS: usize = 9;
@@ -22,44 +22,44 @@ const MAX_BYTE: u32 = 255;
 // Largest flag.
 const MAX_FLAG: u8 = 1;
 
-// Class, borders, pointer and lists can be formed.
-pub fn is_formed(
-    frame_class: u32,
-    var_bord_0: u32,
-    var_bord_1: u32,
-    rel_bord_0: &[u8],
-    num_rel_0: usize,
-    rel_bord_1: &[u8],
-    num_rel_1: usize,
-    pointer: u32,
-) -> bool
-    ensures { λ r. ⌜ r ≡ formed (handed «frame_class» 0 0 [] «var_bord_0» «var_bord_1» (now («rel_bord_0» .entry)) «num_rel_0» (now («rel_bord_1» .entry)) «num_rel_1» pointer) ⌝ }
-{
-    if FrameClass::MAX_CODE < frame_class {
-        return false;
-    }
-    if MAX_BYTE < var_bord_0 {
-        return false;
-    }
-    if MAX_BYTE < var_bord_1 {
-        return false;
-    }
-    if MAX_BYTE < pointer {
-        return false;
-    }
-    if rel_bord_0.len() < num_rel_0 {
-        return false;
-    }
-    num_rel_1 <= rel_bord_1.len()
+// The numbers of a record as C hands them in.
+pub struct Handed {
+    pub frame_class: u32,
+    pub num_env: usize,
+    pub num_noise: usize,
+    pub var_bord_0: u32,
+    pub var_bord_1: u32,
+    pub num_rel_0: usize,
+    pub num_rel_1: usize,
+    pub pointer: u32,
 }
 
-// A record has places for that many flags, and so has the range, where each is 0 or 1.
-pub fn is_flagged(range: &[u8], count: usize) -> bool
-    ensures { λ r. ⌜ r ≡ flagsHeld (handed 0 count 0 (now (range .entry)) 0 0 [] 0 [] 0 0) ⌝ }
+// Class, borders, pointer and lists can be formed.
+pub fn is_formed(h: Handed, rel_bord_0: &[u8], rel_bord_1: &[u8]) -> bool
+    ensures { λ r. ⌜ r ≡ formed h (now («rel_bord_0» .entry)) (now («rel_bord_1» .entry)) ⌝ }
 {
-    if SbrGrid::MAX_NUM_ENV < count {
+    if FrameClass::MAX_CODE < h.frame_class {
         return false;
     }
+    if MAX_BYTE < h.var_bord_0 {
+        return false;
+    }
+    if MAX_BYTE < h.var_bord_1 {
+        return false;
+    }
+    if MAX_BYTE < h.pointer {
+        return false;
+    }
+    if rel_bord_0.len() < h.num_rel_0 {
+        return false;
+    }
+    h.num_rel_1 <= rel_bord_1.len()
+}
+
+// The range has that many flags, each 0 or 1.
+pub fn is_flagged(range: &[u8], count: usize) -> bool
+    ensures { λ r. ⌜ r ≡ flagged count (now (range .entry)) ⌝ }
+{
     if range.len() < count {
         return false;
     }
@@ -103,7 +103,7 @@ fn flag(range: &[u8], count: usize, i: usize) -> bool
 }
 
 // The same as flags.
-pub fn flags(range: &[u8], count: usize) -> [bool; SbrGrid::MAX_NUM_ENV]
+fn flags(range: &[u8], count: usize) -> [bool; SbrGrid::MAX_NUM_ENV]
     ensures { λ r. ⌜ r ≡ first false 5 (map (λ b. eqb b 1) (first 0 count (now (range .entry)))) ⌝ }
 {
     [
@@ -115,35 +115,23 @@ pub fn flags(range: &[u8], count: usize) -> [bool; SbrGrid::MAX_NUM_ENV]
     ]
 }
 
-// The record of what was handed in, its flags beside it.
-pub fn record(
-    frame_class: u32,
-    num_env: usize,
-    num_noise: usize,
-    flags: [bool; SbrGrid::MAX_NUM_ENV],
-    var_bord_0: u32,
-    var_bord_1: u32,
-    rel_bord_0: &[u8],
-    num_rel_0: usize,
-    rel_bord_1: &[u8],
-    num_rel_1: usize,
-    pointer: u32,
-) -> SbrGrid
-    requires { ⌜ («var_bord_0» ≤ 255) × («var_bord_1» ≤ 255) × (pointer ≤ 255) ⌝ }
-    ensures { λ r. ⌜ r ≡ madeOf (handed «frame_class» «num_env» «num_noise» [] «var_bord_0» «var_bord_1» (now («rel_bord_0» .entry)) «num_rel_0» (now («rel_bord_1» .entry)) «num_rel_1» pointer) flags ⌝ }
+// The record of what was handed in.
+pub fn record(h: Handed, freq_res: &[u8], rel_bord_0: &[u8], rel_bord_1: &[u8]) -> SbrGrid
+    requires { ⌜ Bytes h ⌝ }
+    ensures { λ r. ⌜ r ≡ recordOf (gridFrom h (now («freq_res» .entry)) (now («rel_bord_0» .entry)) (now («rel_bord_1» .entry))) ⌝ }
 {
     SbrGrid {
-        frame_class: FrameClass::from_bits(frame_class),
-        num_env,
-        num_noise,
-        freq_res: flags,
-        var_bord_0: var_bord_0 as u8,
-        var_bord_1: var_bord_1 as u8,
-        rel_bord_0: entries(rel_bord_0, num_rel_0),
-        num_rel_0,
-        rel_bord_1: entries(rel_bord_1, num_rel_1),
-        num_rel_1,
-        pointer: pointer as u8,
+        frame_class: FrameClass::from_bits(h.frame_class),
+        num_env: h.num_env,
+        num_noise: h.num_noise,
+        freq_res: flags(freq_res, h.num_env),
+        var_bord_0: h.var_bord_0 as u8,
+        var_bord_1: h.var_bord_1 as u8,
+        rel_bord_0: entries(rel_bord_0, h.num_rel_0),
+        num_rel_0: h.num_rel_0,
+        rel_bord_1: entries(rel_bord_1, h.num_rel_1),
+        num_rel_1: h.num_rel_1,
+        pointer: h.pointer as u8,
         amp_res_override: false,
     }
 }

@@ -1,14 +1,18 @@
 // The calls of the C firmware: plain numbers and ranges of bytes, in and out. Each answers 0, or the number of a refusal, and a
 // refused call leaves everything that was lent as it was.
+use crate::form::Handed;
 use sbr_grid::Answer;
 use sbr_grid::Refusal;
 use sbr_grid::SbrGrid;
 use sbr_reader::Carried;
 use sbr_writer::Written;
+ghost use mathlib.Core.Bool.{_&&_};
 ghost use mathlib.Core.List.{[]};
+ghost use Rattle.sbr_time_grid.specs.TimeGrid.{timeGrid};
+ghost use Rattle.sbr_writer.specs.Write.{writeGrid};
 ghost use Rattle.sbr_reader.specs.Read.{readGrid};
-ghost use Rattle.sbr_c.specs.Handed.{handed, writeHanded, timeHanded};
-ghost use Rattle.sbr_c.specs.Given.{WriterGives, TimeGives, ReaderGives};
+ghost use Rattle.sbr_c.specs.Handed.{gridFrom, formed, flagged, forming, slotted};
+ghost use Rattle.sbr_c.specs.Given.{Gives, writeOut, timeOut, frameOut};
 
 mod form;
 
@@ -28,37 +32,25 @@ pub extern "C" fn sbr_write_grid(
     num_rel_1: u64,
     pointer: u32,
 ) -> u32
-    ensures { λ r. ⌜ WriterGives (writeHanded (now (bytes .entry)) (now (position .entry)) (handed «frame_class» «num_env» 0 (now («freq_res» .entry)) «var_bord_0» «var_bord_1» (now («rel_bord_0» .entry)) «num_rel_0» (now («rel_bord_1» .entry)) «num_rel_1» pointer)) (now (bytes .entry)) (now (position .entry)) r (now (bytes .exit)) (now (position .exit)) ⌝ }
+    ensures { λ r. ⌜ Gives (forming (formed (record { «frame_class» = «frame_class»; «num_env» = «num_env»; «num_noise» = 0; «var_bord_0» = «var_bord_0»; «var_bord_1» = «var_bord_1»; «num_rel_0» = «num_rel_0»; «num_rel_1» = «num_rel_1»; pointer = pointer }) (now («rel_bord_0» .entry)) (now («rel_bord_1» .entry)) && flagged «num_env» (now («freq_res» .entry))) (writeGrid (now (bytes .entry)) (now (position .entry)) (gridFrom (record { «frame_class» = «frame_class»; «num_env» = «num_env»; «num_noise» = 0; «var_bord_0» = «var_bord_0»; «var_bord_1» = «var_bord_1»; «num_rel_0» = «num_rel_0»; «num_rel_1» = «num_rel_1»; pointer = pointer }) (now («freq_res» .entry)) (now («rel_bord_0» .entry)) (now («rel_bord_1» .entry))))) writeOut (now (bytes .entry), now (position .entry)) r (now (bytes .exit), now (position .exit)) ⌝ }
 {
-    let formed = form::is_formed(
+    let handed = Handed {
         frame_class,
+        num_env: num_env as usize,
+        num_noise: 0,
         var_bord_0,
         var_bord_1,
-        rel_bord_0,
-        num_rel_0 as usize,
-        rel_bord_1,
-        num_rel_1 as usize,
+        num_rel_0: num_rel_0 as usize,
+        num_rel_1: num_rel_1 as usize,
         pointer,
-    );
-    if !formed {
+    };
+    if !form::is_formed(handed, rel_bord_0, rel_bord_1) {
         return Refusal::Unwritable.number();
     }
     if !form::is_flagged(freq_res, num_env as usize) {
         return Refusal::Unwritable.number();
     }
-    let grid = form::record(
-        frame_class,
-        num_env as usize,
-        0,
-        form::flags(freq_res, num_env as usize),
-        var_bord_0,
-        var_bord_1,
-        rel_bord_0,
-        num_rel_0 as usize,
-        rel_bord_1,
-        num_rel_1 as usize,
-        pointer,
-    );
+    let grid = form::record(handed, freq_res, rel_bord_0, rel_bord_1);
     let at = *position as usize;
     match sbr_writer::write_grid(bytes, at, grid) {
         Written::To(next) => {
@@ -87,37 +79,25 @@ pub extern "C" fn sbr_derive_time_grid(
     t_q: &mut [u32; 3],
     l_a: &mut i32,
 ) -> u32
-    ensures { λ r. ⌜ TimeGives (timeHanded «num_time_slots» (handed «frame_class» «num_env» «num_noise» [] «var_bord_0» «var_bord_1» (now («rel_bord_0» .entry)) «num_rel_0» (now («rel_bord_1» .entry)) «num_rel_1» pointer)) (now («t_e» .entry)) (now («t_q» .entry)) (now («l_a» .entry)) r (now («t_e» .exit)) (now («t_q» .exit)) (now («l_a» .exit)) ⌝ }
+    ensures { λ r. ⌜ Gives (slotted «num_time_slots» (formed (record { «frame_class» = «frame_class»; «num_env» = «num_env»; «num_noise» = «num_noise»; «var_bord_0» = «var_bord_0»; «var_bord_1» = «var_bord_1»; «num_rel_0» = «num_rel_0»; «num_rel_1» = «num_rel_1»; pointer = pointer }) (now («rel_bord_0» .entry)) (now («rel_bord_1» .entry))) (timeGrid «num_time_slots» (gridFrom (record { «frame_class» = «frame_class»; «num_env» = «num_env»; «num_noise» = «num_noise»; «var_bord_0» = «var_bord_0»; «var_bord_1» = «var_bord_1»; «num_rel_0» = «num_rel_0»; «num_rel_1» = «num_rel_1»; pointer = pointer }) [] (now («rel_bord_0» .entry)) (now («rel_bord_1» .entry))))) timeOut (now («t_e» .entry), now («t_q» .entry), now («l_a» .entry)) r (now («t_e» .exit), now («t_q» .exit), now («l_a» .exit)) ⌝ }
 {
     if !sbr_time_grid::is_slot_count(num_time_slots as usize) {
         return Refusal::SlotCount.number();
     }
-    let formed = form::is_formed(
+    let handed = Handed {
         frame_class,
+        num_env: num_env as usize,
+        num_noise: num_noise as usize,
         var_bord_0,
         var_bord_1,
-        rel_bord_0,
-        num_rel_0 as usize,
-        rel_bord_1,
-        num_rel_1 as usize,
+        num_rel_0: num_rel_0 as usize,
+        num_rel_1: num_rel_1 as usize,
         pointer,
-    );
-    if !formed {
+    };
+    if !form::is_formed(handed, rel_bord_0, rel_bord_1) {
         return Refusal::Unwritable.number();
     }
-    let grid = form::record(
-        frame_class,
-        num_env as usize,
-        num_noise as usize,
-        [false; SbrGrid::MAX_NUM_ENV],
-        var_bord_0,
-        var_bord_1,
-        rel_bord_0,
-        num_rel_0 as usize,
-        rel_bord_1,
-        num_rel_1 as usize,
-        pointer,
-    );
+    let grid = form::record(handed, &rel_bord_0[..0], rel_bord_0, rel_bord_1);
     let derived = sbr_time_grid::derive_time_grid(grid, num_time_slots as usize);
     let answer = derived.answer;
     match answer {
@@ -150,7 +130,7 @@ pub extern "C" fn sbr_read_grid(
     t_q: &mut [u32; 3],
     l_a: &mut i32,
 ) -> u32
-    ensures { λ r. ⌜ ReaderGives (readGrid (now (bytes .entry)) (now (position .entry)) «num_time_slots» (now (border .entry))) (record { position = now (position .entry); border = now (border .entry); numbers = now (numbers .entry); flags = now («freq_res» .entry); rel0 = now («rel_bord_0» .entry); rel1 = now («rel_bord_1» .entry); borders = now («t_e» .entry); noise = now («t_q» .entry); mark = now («l_a» .entry) }) r (record { position = now (position .exit); border = now (border .exit); numbers = now (numbers .exit); flags = now («freq_res» .exit); rel0 = now («rel_bord_0» .exit); rel1 = now («rel_bord_1» .exit); borders = now («t_e» .exit); noise = now («t_q» .exit); mark = now («l_a» .exit) }) ⌝ }
+    ensures { λ r. ⌜ Gives (readGrid (now (bytes .entry)) (now (position .entry)) «num_time_slots» (now (border .entry))) frameOut (now (position .entry), now (border .entry), (now (numbers .entry), now («freq_res» .entry), now («rel_bord_0» .entry), now («rel_bord_1» .entry)), (now («t_e» .entry), now («t_q» .entry), now («l_a» .entry))) r (now (position .exit), now (border .exit), (now (numbers .exit), now («freq_res» .exit), now («rel_bord_0» .exit), now («rel_bord_1» .exit)), (now («t_e» .exit), now («t_q» .exit), now («l_a» .exit))) ⌝ }
 {
     let at = *position as usize;
     let before = *border;

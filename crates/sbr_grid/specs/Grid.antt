@@ -65,18 +65,25 @@ pub record Grid : Type 0 where
 abbrev pub numEnv : Grid → ℕ
 numEnv g = length (g .freqRes)
 
-abbrev pub viewOf : SbrGrid → Grid
-viewOf g = record {
-  frameClass = g .«frame_class»;
-  numNoise = g .«num_noise»;
-  freqRes = first false (g .«num_env») (g .«freq_res»);
-  varBord0 = g .«var_bord_0»;
-  varBord1 = g .«var_bord_1»;
-  relBord0 = first 0 (g .«num_rel_0») (g .«rel_bord_0»);
-  relBord1 = first 0 (g .«num_rel_1») (g .«rel_bord_1»);
-  pointer = g .pointer;
-  ampOverride = g .«amp_res_override»;
+-- a grid by its class, noise count, resolutions, border bytes, lists of lengths, pointer and override
+abbrev pub made : FrameClass → ℕ → List Bool → ℕ → ℕ → List ℕ → List ℕ → ℕ → Bool → Grid
+made class noise res b0 b1 rel0 rel1 p override = record {
+  frameClass = class;
+  numNoise = noise;
+  freqRes = res;
+  varBord0 = b0;
+  varBord1 = b1;
+  relBord0 = rel0;
+  relBord1 = rel1;
+  pointer = p;
+  ampOverride = override;
 }
+
+-- the view of a record
+abbrev pub viewOf : SbrGrid → Grid
+viewOf g =
+    made (g .«frame_class») (g .«num_noise») (first false (g .«num_env») (g .«freq_res»)) (g .«var_bord_0») (g .«var_bord_1»)
+    (first 0 (g .«num_rel_0») (g .«rel_bord_0»)) (first 0 (g .«num_rel_1») (g .«rel_bord_1»)) (g .pointer) (g .«amp_res_override»)
 
 -- the record of a view: places past a count are zero
 abbrev pub recordOf : Grid → SbrGrid
@@ -97,14 +104,4 @@ recordOf g = record {
 
 -- the record that stands beside a refusal
 abbrev pub empty : SbrGrid
-empty = recordOf (record {
-  frameClass = FixFix;
-  numNoise = 0;
-  freqRes = [];
-  varBord0 = 0;
-  varBord1 = 0;
-  relBord0 = [];
-  relBord1 = [];
-  pointer = 0;
-  ampOverride = false;
-})
+empty = recordOf (made FixFix 0 [] 0 0 [] [] 0 false)

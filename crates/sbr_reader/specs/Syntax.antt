@@ -10,7 +10,7 @@ use Rattle.sbr_grid.specs.declared.FrameClass.{FrameClass}
 use Rattle.sbr_grid.specs.declared.FrameClass.the-variants.{FixFix, FixVar, VarFix, VarVar}
 use Rattle.sbr_grid.specs.declared.Refusal.the-variants.{BitsEnd, EnvelopeCount}
 use Rattle.sbr_grid.specs.Refusals.{Outcome, answered, refused}
-use Rattle.sbr_grid.specs.Grid.{classOf, ptrBits, Grid}
+use Rattle.sbr_grid.specs.Grid.{classOf, ptrBits, Grid, made}
 
 infixl 20 _>>=_
 -- reading takes bits from the front and leaves the rest
@@ -55,17 +55,8 @@ isFixFix VarFix = false
 isFixFix VarVar = false
 
 abbrev pub received : FrameClass → List Bool → ℕ → ℕ → List ℕ → List ℕ → ℕ → Grid
-received c res b0 b1 rel0 rel1 p = record {
-  frameClass = c;
-  numNoise = cond (leb (length res) 1) 1 2;
-  freqRes = res;
-  varBord0 = b0;
-  varBord1 = b1;
-  relBord0 = rel0;
-  relBord1 = rel1;
-  pointer = p;
-  ampOverride = isFixFix c && eqb (length res) 1;
-}
+received c res b0 b1 rel0 rel1 p =
+    made c (cond (leb (length res) 1) 1 2) res b0 b1 rel0 rel1 p (isFixFix c && eqb (length res) 1)
 
 unfoldable pub fixFix : Reader Grid
 fixFix = do

@@ -1,10 +1,11 @@
 -- `sbr_c::sbr_read_grid` meets its contract.
 use borrow.Author.Needs.{needs}
-use mathlib.Core.Path.{_≡_}
+use mathlib.Core.Path.{_≡_, ap}
 use mir.Syntax.{w32}
 use mir.ValLaws.{toZ-ofZ}
 use Rattle.sbr_reader.specs.Read.{readGrid, readingOf}
-use Rattle.sbr_c.proofs.Readings.{read-few, gives-read, gives-no-read}
+use Rattle.sbr_c.proofs.Answers.{gives-refused, gives-answered, has-refused}
+use Rattle.sbr_c.proofs.Readings.{read-few, has-read}
 use Rattle.sbr_c.proofs.sbr_read_grid.Statement.{statement}
 use Rattle.sbr_c.proofs.sbr_read_grid.Tie as tie
 
@@ -50,12 +51,12 @@ returns c =
       toZ-ofZ w32 (d .read-grid .result .carried .border) (record { sfits = t .before .before .before .before .before .struct-told .given .0 .1 }),
       toZ-ofZ w32 (d .read-grid .result .time .«l_a») (record { sfits = t .struct-told2 .given .1 .1 .1 .1 .0 .1 }),
     )
-    (gives-read _ _ _ _ _ (d .read-grid .result) (read-is d) _ (t .before .before .before .before .before .before .before .before .before .enum-told .given .1))
+    (gives-answered _ _ _ _ (has-read _ _ _ _ _ (d .read-grid .result) (read-is d) (t .before .before .before .before .before .before .before .before .before .enum-told .given .1)))
 
 returns-2 : tie.Need-returns-2
 returns-2 c =
     let d = c .before .before .before .before in
-    gives-no-read _ _ _ (d .read-grid .result) _ _ _ (read-is d) (c .before .before .answer .given .1) (c .number .ensures)
+    gives-refused _ _ _ _ _ (has-refused _ _ _ (ap (λ r. r .answer) (read-is d)) (c .before .before .answer .given .1)) (c .number .ensures)
 
 pub sbr-read-grid-spec : {M : Type 1} → statement M
 sbr-read-grid-spec =

@@ -9,7 +9,6 @@ use Rattle.sbr_grid.specs.Grid.{first}
 use Rattle.sbr_writer.specs.Write.{every}
 use Rattle.sbr_writer.proofs.Facts.{every-next, every-fails, every-done}
 use Rattle.sbr_c.specs.Handed.{flagged}
-use Rattle.sbr_c.proofs.Laws.{held-by}
 use Rattle.sbr_c.proofs.form.is_flagged.Statement.{statement}
 use Rattle.sbr_c.proofs.form.is_flagged.Tie as tie
 
@@ -21,23 +20,22 @@ abbrev μ-loop : tie.MeasureT-loop
 μ-loop range count i₀ i = count - i
 
 returns : tie.Need-returns Inv-loop μ-loop
-returns c = rw (lt-leb _ 5 (c .if1 .taken))
-
-returns-2 : tie.Need-returns-2 Inv-loop μ-loop
 unfolding flagged
-returns-2 c = rw (le-leb _ 5 (c .before .if1 .left), lt-leb _ _ (c .if2 .taken))
+returns c = rw (lt-leb _ _ (c .if1 .taken))
 
 loop-holds : tie.Need-loop-holds Inv-loop μ-loop
 loop-holds c = (omega arith, refl)
 
-shared-slice-read-if3 : tie.Need-shared-slice-read-if3 Inv-loop μ-loop
-shared-slice-read-if3 c = omega arith
+shared-slice-read-if2 : tie.Need-shared-slice-read-if2 Inv-loop μ-loop
+shared-slice-read-if2 c = omega arith
 
-returns-3 : tie.Need-returns-3 Inv-loop μ-loop
-returns-3 c =
-    let s = c .before .before .before .loop in
-    let a = c .before .before .before .before .before .before .args in
-    held-by (a .count) (a .range .now) _ (omega arith) (omega arith) (sym (every-fails (λ b. leb b 1) 0 (a .count) (s .i) (a .range .now) (omega arith) (lt-leb _ 1 (c .if3 .taken))) ∙ s .inv .1)
+returns-2 : tie.Need-returns-2 Inv-loop μ-loop
+unfolding flagged
+returns-2 c =
+    let e = c .before .before .before in
+    let a = e .before .before .args in
+    rw (le-leb _ _ (e .before .if1 .left))
+    (sym (every-fails (λ b. leb b 1) 0 (a .count) (e .loop .i) (a .range .now) (omega arith) (lt-leb _ 1 (c .if2 .taken))) ∙ e .loop .inv .1)
 
 add-i : tie.Need-add-i Inv-loop μ-loop
 add-i c = omega arith
@@ -47,15 +45,17 @@ loop-less c = omega arith
 
 loop-again : tie.Need-loop-again Inv-loop μ-loop
 loop-again c =
-    let s = c .before .before .before .loop in
-    let a = c .before .before .before .before .before .before .args in
-    (omega arith, sym (every-next (λ b. leb b 1) 0 (a .count) (s .i) (a .range .now) (omega arith) (le-leb _ 1 (c .if3 .left))) ∙ s .inv .1)
+    let e = c .before .before .before in
+    let a = e .before .before .args in
+    (omega arith, sym (every-next (λ b. leb b 1) 0 (a .count) (e .loop .i) (a .range .now) (omega arith) (le-leb _ 1 (c .if2 .left))) ∙ e .loop .inv .1)
 
-returns-4 : tie.Need-returns-4 Inv-loop μ-loop
-returns-4 c =
-    let s = c .before .loop in
-    let a = c .before .before .before .before .args in
-    held-by (a .count) (a .range .now) _ (omega arith) (omega arith) (sym (every-done (λ b. leb b 1) 0 (a .count) (s .i) (a .range .now) (omega arith)) ∙ s .inv .1)
+returns-3 : tie.Need-returns-3 Inv-loop μ-loop
+unfolding flagged
+returns-3 c =
+    let e = c .before in
+    let a = e .before .before .args in
+    rw (le-leb _ _ (e .before .if1 .left))
+    (sym (every-done (λ b. leb b 1) 0 (a .count) (e .loop .i) (a .range .now) (omega arith)) ∙ e .loop .inv .1)
 
 pub is-flagged-spec : {M : Type 1} → statement M
 is-flagged-spec =
@@ -64,11 +64,10 @@ is-flagged-spec =
     Inv-loop
     μ-loop
     returns
-    returns-2
     loop-holds
-    shared-slice-read-if3
-    returns-3
+    shared-slice-read-if2
+    returns-2
     add-i
     loop-less
     loop-again
-    returns-4)
+    returns-3)

@@ -1,16 +1,21 @@
 -- `sbr_c::form::record` meets its contract.
 use borrow.Author.Needs.{needs}
+use lib.ListN.{length-map}
+use Rattle.sbr_grid.proofs.Laws.{length-first}
 use Rattle.sbr_c.proofs.form.record.Statement.{statement}
 use Rattle.sbr_c.proofs.form.record.Tie as tie
 
 from-bits-requires : tie.Need-from-bits-requires
 from-bits-requires c κs = search needs
 
-cast-t13 : tie.Need-cast-t13
-cast-t13 c = search needs
+flags-requires : tie.Need-flags-requires
+flags-requires c κs = search needs
 
-cast-t14 : tie.Need-cast-t14
-cast-t14 c = search needs
+cast-t7 : tie.Need-cast-t7
+cast-t7 c = search needs
+
+cast-t8 : tie.Need-cast-t8
+cast-t8 c = search needs
 
 entries-requires : tie.Need-entries-requires
 entries-requires c κs = search needs
@@ -18,20 +23,25 @@ entries-requires c κs = search needs
 entries-requires-2 : tie.Need-entries-requires-2
 entries-requires-2 c κs = search needs
 
-cast-t17 : tie.Need-cast-t17
-cast-t17 c = search needs
+cast-t11 : tie.Need-cast-t11
+cast-t11 c = search needs
 
 returns : tie.Need-returns
-returns c = rw (c .before .before .from-bits .ensures, c .before .entries .ensures, c .entries2 .ensures)
+returns c =
+    let e = c .before .before in
+    let f = e .before .before .before in
+    rw (f .before .from-bits .ensures, f .flags .ensures, e .entries .ensures, c .before .entries2 .ensures)
+    (simp (length-map, length-first))
 
 pub record-spec : {M : Type 1} → statement M
 record-spec =
     tie.close
     (tie.spec
     from-bits-requires
-    cast-t13
-    cast-t14
+    flags-requires
+    cast-t7
+    cast-t8
     entries-requires
     entries-requires-2
-    cast-t17
+    cast-t11
     returns)
