@@ -10,6 +10,10 @@ use lib.Ieee.{Float, fin, inf, nan, binary64, ofBits, up, down}
 abbrev pub zero64 : Float
 zero64 = ofBits binary64 0
 
+-- 64.0, the energy that an onset and a spread band have to exceed
+abbrev pub floor64 : Float
+floor64 = ofBits binary64 0x4050_0000_0000_0000
+
 -- f64::max and f64::min: where one is a NaN the other one is taken
 abbrev pub maxOf : Float → Float → Float
 maxOf a b = cond (Ieee.isNan a) b (cond (Ieee.isNan b) a (cond (Ieee.lt a b) b a))

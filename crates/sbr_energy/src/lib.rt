@@ -4,7 +4,7 @@ ghost use Prim.Native.Nat.{ℕ, _+_, _-_, _*_, _≤_, _<_};
 ghost use lib.ListN.{length};
 ghost use Rattle.sbr_qmf.specs.Qmf.{columns};
 ghost use Rattle.sbr_energy.specs.Floats.{maxOf, minOf, meanOf, spreadIsHigh};
-ghost use Rattle.sbr_energy.specs.Energy.{slotEnergies, bandMean};
+ghost use Rattle.sbr_energy.specs.Energy.{bandSum, slotEnergies};
 
 mod sums;
 
@@ -51,6 +51,26 @@ pub fn spread_is_high(quotient: f64) -> bool
     quotient > SPREAD
 }
 
+// The sums of two columns.
+pub struct Pair {
+    pub a: f64,
+    pub b: f64,
+}
+
+// The sums of the bands kl to kh of the columns c and c + 1, side by side.
+pub fn band_sums(x: &[f64], kl: usize, kh: usize, c: usize) -> Pair
+    requires { ⌜ (kl ≤ kh) × (kh ≤ 64) × ((c + 2) * 128 ≤ length (now x)) ⌝ }
+    ensures { λ r. ⌜ (r .a ≡ bandSum (columns (now (x .entry))) kl kh c) × (r .b ≡ bandSum (columns (now (x .entry))) kl kh (c + 1)) ⌝ }
+{
+    let mut a = 0.0;
+    let mut b = 0.0;
+    for i in 0..kh - kl {
+        a = a + sums::energy(x, c, kl + i);
+        b = b + sums::energy(x, c + 1, kl + i);
+    }
+    Pair { a: a, b: b }
+}
+
 // The energies of the first n slots over the bands kl to kh; the places past them are 0.0.
 pub fn slot_energies(x: &[f64], n: usize, kl: usize, kh: usize) -> [f64; 24]
     requires { ⌜ (n ≤ 24) × (kl ≤ kh) × (kh ≤ 64) × ((2 * n + 2) * 128 ≤ length (now x)) ⌝ }
@@ -58,23 +78,8 @@ pub fn slot_energies(x: &[f64], n: usize, kl: usize, kh: usize) -> [f64; 24]
 {
     let mut out = [0.0; 24];
     for s in 0..n {
-        let pair = sums::band_sums(x, kl, kh, 2 * s + 2);
+        let pair = band_sums(x, kl, kh, 2 * s + 2);
         out[s] = 0.0 + pair.a + pair.b;
     }
     out
-}
-
-// The mean of the bands kl to kh over the slots t0 to t1.
-pub fn band_mean(x: &[f64], t0: usize, t1: usize, kl: usize, kh: usize) -> f64
-    requires { ⌜ (t0 ≤ t1) × (t1 ≤ 24) × (kl ≤ kh) × (kh ≤ 64) × ((2 * t1 + 2) * 128 ≤ length (now x)) ⌝ }
-    ensures { λ r. ⌜ r ≡ bandMean (columns (now (x .entry))) t0 t1 kl kh ⌝ }
-{
-    let first = 2 * t0 + 2;
-    let mut acc = 0.0;
-    for i in 0..t1 - t0 {
-        let pair = sums::band_sums(x, kl, kh, first + 2 * i);
-        acc = acc + pair.a + pair.b;
-    }
-    let columns = 2 * t1 + 2 - first;
-    mean(acc, (columns * (kh - kl)) as u32)
 }

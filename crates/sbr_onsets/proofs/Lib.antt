@@ -1,0 +1,3 @@
+pub mod OnsetSame
+pub mod OnsetLaws
+pub mod OnsetLead

@@ -1,0 +1,13 @@
+pub mod BuildCases
+pub mod BuildGrids
+pub mod BuildLaws
+pub mod BuildLists
+pub mod SearchCases
+pub mod SearchEnds
+pub mod SearchLists
+pub mod SearchShifts
+pub mod SearchWalks
+pub mod Computed
+pub mod Cases
+pub mod Every
+pub mod Best

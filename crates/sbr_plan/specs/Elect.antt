@@ -1,0 +1,69 @@
+-- The grid of a frame whose onsets are known: the choice in `elect_grid` of src/sbr_encoder.rs, its builders tried in order.
+use mathlib.Core.Bool.{Bool, true, false, cond}
+use mathlib.Core.List.{List, [], _∷_}
+use mathlib.Core.Option.{Option, none, some}
+use Prim.Native.Nat.{ℕ}
+use lib.Dec.{leb, eqb}
+use lib.ListN.{length}
+use Rattle.sbr_grid.specs.Grid.{first, Grid, recordOf, empty}
+use Rattle.sbr_plan.specs.declared.Onsets.{Onsets}
+use Rattle.sbr_plan.specs.declared.build.LateAttack.the-variants.{Late, NotLate}
+use Rattle.sbr_plan.specs.declared.build.DoubleAttack.the-variants.{Double, NotDouble}
+use Rattle.sbr_plan.specs.declared.search.MultiOnset.the-variants.{Planned, NoPlan}
+use Rattle.sbr_plan.specs.declared.build.LateGrid.{LateGrid}
+use Rattle.sbr_plan.specs.declared.build.DoubleGrid.{DoubleGrid}
+use Rattle.sbr_plan.specs.declared.search.MultiGrid.{MultiGrid}
+use Rattle.sbr_plan.specs.Build.{fixfixGrid, varfixPlain, lateAttackVarvar, doubleAttackGrid, variableGrid}
+use Rattle.sbr_plan.specs.Search.{multiOnsetGrid}
+
+-- the onsets of an array with a count
+abbrev pub onsetList : Onsets → List ℕ
+onsetList o = first 0 (o .count) (o .slot)
+
+-- the enum and the record that a builder hands out for a grid, or for none
+abbrev pub lateOf : Option Grid → LateGrid
+lateOf none = record { answer = NotLate; grid = empty }
+lateOf (some g) = record { answer = Late; grid = recordOf g }
+
+abbrev pub doubleOf : Option Grid → DoubleGrid
+doubleOf none = record { answer = NotDouble; grid = empty }
+doubleOf (some g) = record { answer = Double; grid = recordOf g }
+
+abbrev pub multiOf : Option Grid → MultiGrid
+multiOf none = record { answer = NoPlan; grid = empty }
+multiOf (some g) = record { answer = Planned; grid = recordOf g }
+
+-- a grid, or the next kind where there is none
+abbrev pub orGrid : Option Grid → Grid → Grid
+orGrid none d = d
+orGrid (some g) d = g
+
+-- the search, for k onsets or more
+abbrev pub solver : ℕ → List ℕ → ℕ → ℕ → Option Grid
+solver k os lead n = cond (leb k (length os)) (multiOnsetGrid os lead n) none
+
+-- the double grid of the first two onsets
+abbrev pub doubleFirst : List ℕ → ℕ → ℕ → Option Grid
+doubleFirst [] lead n = none
+doubleFirst (s ∷ []) lead n = none
+doubleFirst (s ∷ s2 ∷ os) lead n = doubleAttackGrid s s2 lead n
+
+-- variable borders: s is the first onset of os
+unfoldable pub attackGrid : ℕ → List ℕ → ℕ → ℕ → Grid
+attackGrid s os lead n =
+    orGrid (solver 3 os lead n)
+    (orGrid (doubleFirst os lead n) (orGrid (solver 2 os lead n) (orGrid (lateAttackVarvar s lead n) (variableGrid s lead n))))
+
+-- no variable borders but the lead
+unfoldable pub plainGrid : ℕ → Bool → ℕ → ℕ → Grid
+plainGrid k high lead n = cond (eqb lead 0) (fixfixGrid k high) (varfixPlain lead k n)
+
+-- variable is the switch `variable_borders`, even that the two halves are alike
+unfoldable pub chosenGrid : Bool → Bool → List ℕ → ℕ → ℕ → Grid
+chosenGrid variable even [] lead n = plainGrid (cond even 1 2) true lead n
+chosenGrid variable even (s ∷ os) lead n = cond variable (attackGrid s (s ∷ os) lead n) (plainGrid 4 false lead n)
+
+-- what the source sends in place of a grid without time grid
+abbrev pub fallbackGrid : List ℕ → Grid
+fallbackGrid [] = fixfixGrid 1 true
+fallbackGrid (s ∷ os) = fixfixGrid 4 false
