@@ -1,0 +1,4 @@
+pub mod OneFrame
+pub mod Transmit
+pub mod Receive
+pub mod Term3

@@ -1,0 +1,154 @@
+-- One frame: what a turn that answers says, and that a receiver which stands at its bits reads it.
+use mathlib.Core.Path.{_≡_, refl, sym, ap, _∙_, subst}
+use mathlib.Core.Bool.{Bool, true, false, cond}
+use mathlib.Core.List.{List, [], _∷_, _++_}
+use Prim.Native.Nat.{ℕ, zero, suc, _+_, _-_, _*_, _^_, _≤_, _<_, min}
+use native.Mathlib.Nat.{add-zero, add-suc, suc-add}
+use native.Mathlib.Omega.{arith}
+use borrow.Author.Tests.{le-ltb}
+use lib.Dec.{T, eqb, eqb-refl}
+use lib.IntN.{ℤ, pos}
+use lib.ListN.{length, drop, getD, length-append}
+use Rattle.bits.specs.Bits.{bitsAt, putBits}
+use Rattle.bits.specs.Room.{endOf, roomFor, bitsFrom}
+use Rattle.bits.proofs.Stream.{length-bitsAt}
+use Rattle.bits.proofs.Room.{room}
+use Rattle.sbr_grid.specs.declared.Refusal.the-variants.{SlotCount, Room, Unwritable}
+use Rattle.sbr_grid.specs.Refusals.{Outcome, answered, refused}
+use Rattle.sbr_grid.specs.Grid.{Grid, numEnv}
+use Rattle.sbr_time_grid.specs.TimeGrid.{Times, slotCount, timeGrid}
+use Rattle.sbr_time_grid.proofs.Ends.{time-ends, time-passes}
+use Rattle.sbr_writer.specs.Syntax.{gridBits}
+use Rattle.sbr_writer.specs.Write.{Wrote, writable, writeGrid}
+use Rattle.sbr_reader.specs.Syntax.{sbrGrid}
+use Rattle.sbr_reader.specs.Read.{Frame, isBorder, meets, timed, parsed, readGrid}
+use Rattle.sbr_onsets.specs.Onsets.{leadOf}
+use Rattle.sbr_encoder.specs.Election.{Elected, elect}
+use Rattle.sbr_encoder.specs.Claims.{Sent as SentRecord}
+use Rattle.sbr_encoder.proofs.Elections.{every-election}
+use Rattle.sbr_run.specs.Run.{Turn, Sent, Turned, next, turn, Terms, State, HandsIn, firstBorder, lastBorder, Meets}
+
+-- ---- a turn that answers
+
+-- the call before the next one answered
+pub next-answered : {A B : Type 0} (o : Outcome A) (f : A → Outcome B) (b : B) → next o f ≡ answered b → (a : A) × (o ≡ answered a) × (f a ≡ answered b)
+next-answered (answered a) f b e = (a, refl, e)
+next-answered (refused r) f b e = let z : _≡_ {A = ℕ} 0 1 = cc in absurd (omega arith)
+
+pub record Calls (t : Turn) (a : Turned) : Type 0 where
+  pub elected : Elected
+  pub elects : elect (t .slots) (t .high) (t .low) (t .samples) (t .previous) (t .variable) ≡ answered elected
+  pub same : elected .grid ≡ a .sent .grid
+  pub times : timeGrid (t .timeSlots) (a .sent .grid) ≡ answered (a .sent .time)
+  pub writes : writeGrid (t .bytes) (t .position) (a .sent .grid) ≡ answered (a .wrote)
+
+last-call : (g : Grid) (tm : Times) (w : Wrote) (a : Turned) → answered (record { sent = record { grid = g; time = tm }; wrote = w }) ≡ answered a
+    → _≡_ {A = Turned} (record { sent = record { grid = g; time = tm }; wrote = w }) a
+last-call g tm w a e = cc
+
+-- the three calls of a turn that answers
+pub calls : (t : Turn) (a : Turned) → turn t ≡ answered a → Calls t a
+unfolding turn
+calls t a e =
+    let p = next-answered {A = Elected} _ _ a e in
+    let q = next-answered {A = Times} _ _ a (p .2) in
+    let r = next-answered {A = Wrote} _ _ a (q .2) in
+    let l = last-call (p .0 .grid) (q .0) (r .0) a (r .2) in
+    let g : p .0 .grid ≡ a .sent .grid = ap (λ (x : Turned). x .sent .grid) l in
+    record {
+      elected = p .0;
+      elects = p .1;
+      same = g;
+      times = ap (timeGrid (t .timeSlots)) (sym g) ∙ q .1 ∙ ap (λ (x : Turned). answered (x .sent .time)) l;
+      writes = ap (writeGrid (t .bytes) (t .position)) (sym g) ∙ r .1 ∙ ap (λ (x : Turned). answered (x .wrote)) l;
+    }
+
+-- what a write that answers has put
+pub record Put (l : List ℕ) (p : ℕ) (g : Grid) (w : Wrote) : Type 0 where
+  pub fits : writable g ≡ true
+  pub room : roomFor (length l) p (length (gridBits g)) ≡ true
+  pub bytes : w .bytes ≡ putBits l p (gridBits g)
+  pub position : w .position ≡ p + length (gridBits g)
+
+put-by : (bytes : List ℕ) (p : ℕ) (g : Grid) (w v : Wrote) (a b : Bool) → writable g ≡ a → roomFor (length bytes) p (length (gridBits g)) ≡ b
+    → v ≡ record { bytes = putBits bytes p (gridBits g); position = p + length (gridBits g) }
+    → cond a (cond b (answered v) (refused Room)) (refused Unwritable) ≡ answered w → Put bytes p g w
+put-by bytes p g w v true true x y z e =
+    let s : v ≡ w = cc in
+    record { fits = x; room = y; bytes = ap (λ (u : Wrote). u .bytes) (sym s ∙ z); position = ap (λ (u : Wrote). u .position) (sym s ∙ z) }
+put-by bytes p g w v true false x y z e = let k : _≡_ {A = ℕ} 0 1 = cc in absurd (omega arith)
+put-by bytes p g w v false b x y z e = let k : _≡_ {A = ℕ} 0 1 = cc in absurd (omega arith)
+
+pub puts : (bytes : List ℕ) (p : ℕ) (g : Grid) (w : Wrote) → writeGrid bytes p g ≡ answered w → Put bytes p g w
+unfolding writeGrid
+puts bytes p g w e = put-by bytes p g w _ (writable g) (roomFor (length bytes) p (length (gridBits g))) refl refl refl e
+
+-- ---- a frame that a receiver can read
+
+-- it meets the border b, and its bits are read back as its record
+pub record Good (n b : ℕ) (f : Sent) : Type 0 where
+  pub slots : slotCount n ≡ true
+  pub frame-meets : Meets n b f
+  pub reads : (rest : List Bool) → sbrGrid (gridBits (f .grid) ++ rest) ≡ answered (f .grid, rest)
+  pub last : getD (f .time .tE) (numEnv (f .grid)) 0 ≡ lastBorder (f .time)
+
+-- what its reading gives
+abbrev pub got : Sent → ℕ → Frame
+got f q = record { grid = f .grid; time = f .time; position = q + length (gridBits (f .grid)); border = lastBorder (f .time) }
+
+is-true : (b : Bool) → T b → b ≡ true
+is-true true t = refl
+is-true false t = absurd t
+
+-- a receiver that stands at its bits, with the border that it meets, reads it
+pub read-ok : (n b q : ℕ) (bytes : List ℕ) (f : Sent) (rest : List Bool) → Good n b f → bitsFrom bytes q ≡ gridBits (f .grid) ++ rest
+    → readGrid bytes q n (pos b) ≡ answered (got f q)
+unfolding readGrid meets
+read-ok n b q bytes f rest h e =
+    let m = h .frame-meets in
+    let len : length (bitsFrom bytes q) - length rest ≡ length (gridBits (f .grid)) = omega (arith, ap length e, length-append (gridBits (f .grid)) rest) in
+    let test : eqb b (firstBorder (f .time) + n) ≡ true = is-true _ (subst (λ (k : ℕ). T (eqb b k)) (sym (m .begins)) (eqb-refl b)) in
+    rw (h .slots) (
+    ap (parsed n (pos b) q (length (bitsFrom bytes q))) (ap sbrGrid e ∙ h .reads rest)
+    ∙ ap (timed n (pos b) (f .grid) (q + (length (bitsFrom bytes q) - length rest))) (m .derived)
+    ∙ rw (test, len, h .last) refl)
+
+-- ---- an elected frame is one
+
+-- what the run carries is within reach
+pub record InReach (n : ℕ) (s : State) : Type 0 where
+  pub from : n ≤ s .border
+  pub by : s .border ≤ n + 3
+
+-- the lead is the carried border less the slot count
+lead-is : (n b : ℕ) → n ≤ b → b ≤ n + 3 → leadOf n (pos b) + n ≡ b
+lead-is zero b l u = omega arith
+lead-is (suc n) b l u = rw (le-ltb b (suc n) l) (omega arith)
+
+-- a turn that answers and hands in the run's things sends such a frame
+pub good-frame : (r : Terms) (s : State) (t : Turn) (a : Turned) → InReach (r .slots) s → HandsIn r s t → turn t ≡ answered a → Good (r .slots) (s .border) (a .sent)
+good-frame r s t a i h e =
+    let c = calls t a e in
+    let n = r .slots in
+    let el : elect n (t .high) (t .low) (t .samples) (pos (s .border)) (t .variable) ≡ answered (c .elected) =
+    subst (λ (k : ℕ). elect k (t .high) (t .low) (t .samples) (pos (s .border)) (t .variable) ≡ answered (c .elected)) (h .slots)
+    (subst (λ (z : ℤ). elect (t .slots) (t .high) (t .low) (t .samples) z (t .variable) ≡ answered (c .elected)) (h .previous) (c .elects)) in
+    let sr : SentRecord n (leadOf n (pos (s .border))) (a .sent .grid) =
+    subst (λ (g : Grid). SentRecord n (leadOf n (pos (s .border))) g) (c .same)
+    (every-election n (t .high) (t .low) (t .samples) (pos (s .border)) (t .variable) (c .elected) el) in
+    let tm : timeGrid n (a .sent .grid) ≡ answered (a .sent .time) =
+    subst (λ (k : ℕ). timeGrid k (a .sent .grid) ≡ answered (a .sent .time)) (h .timeSlots) (c .times) in
+    let same : sr .time ≡ a .sent .time = cc (sr .derived, tm) in
+    let ends = time-ends n (a .sent .grid) (a .sent .time) tm in
+    let last : getD (a .sent .time .tE) (numEnv (a .sent .grid)) 0 ≡ lastBorder (a .sent .time) = ap (λ (k : ℕ). getD (a .sent .time .tE) k 0) (omega (arith, ends .count)) in
+    record {
+      slots = time-passes n (a .sent .grid) (a .sent .time) tm .slots;
+      frame-meets = record {
+        derived = tm;
+        begins = ap (λ (k : ℕ). k + n) (ap (λ (x : Times). getD (x .tE) 0 0) (sym same) ∙ sr .starts) ∙ lead-is n (s .border) (i .from) (i .by);
+        from = omega (arith, sr .ends-from, last, ap (λ (x : Times). getD (x .tE) (numEnv (a .sent .grid)) 0) same);
+        by = omega (arith, sr .ends-by, last, ap (λ (x : Times). getD (x .tE) (numEnv (a .sent .grid)) 0) same);
+      };
+      reads = sr .reads;
+      last = last;
+    }

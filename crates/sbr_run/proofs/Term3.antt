@@ -1,0 +1,139 @@
+-- Term 3.
+use mathlib.Core.Path.{_≡_, refl, sym, ap, _∙_, subst}
+use mathlib.Core.Bool.{Bool, true, false, cond}
+use mathlib.Core.List.{List, [], _∷_, _++_, map, append-assoc, append-nil}
+use Prim.Native.Nat.{ℕ, zero, suc, _+_, _-_, _≤_, _<_}
+use native.Mathlib.Omega.{arith}
+use lib.Dec.{leb}
+use lib.ListN.{length, getD, length-append, length-map}
+use lib.Ieee.{Float}
+use Rattle.bits.specs.Room.{roomFor}
+use Rattle.bits.specs.Bits.{putBits}
+use Rattle.sbr_grid.specs.declared.Refusal.{Refusal}
+use Rattle.sbr_grid.specs.declared.Refusal.the-variants.{SlotCount, Samples, Tables, Room, Unwritable}
+use Rattle.sbr_grid.specs.Refusals.{Outcome, answered, refused}
+use Rattle.sbr_grid.specs.Grid.{Grid, numEnv}
+use Rattle.sbr_time_grid.specs.TimeGrid.{Times, slotCount, timeGrid}
+use Rattle.sbr_time_grid.proofs.Ends.{time-ends}
+use Rattle.sbr_qmf.specs.Qmf.{Samples as SampleAt, columns}
+use Rattle.sbr_writer.specs.Syntax.{gridBits}
+use Rattle.sbr_writer.specs.Write.{Wrote, writable, writeGrid}
+use Rattle.sbr_reader.specs.Syntax.{sbrGrid}
+use Rattle.sbr_bands.specs.Tables.{tablesFit, Span, spans}
+use Rattle.sbr_envelopes.specs.Envelopes.{samplesNeeded, meanIn, row, rows, rowsOf, energies}
+use Rattle.sbr_encoder.proofs.Elections.{every-election, length-spans}
+use Rattle.sbr_run.specs.Run.{Turn, Sent, Terms, State, lastBorder, after, sent, Run, rowLengths, Frame, frameOf, stream}
+use Rattle.sbr_run.specs.Claim.{Sendable, Differ, Apart, sumOf, Term3}
+use Rattle.sbr_run.proofs.OneFrame.{Good}
+use Rattle.sbr_run.proofs.Transmit.{GoodChain, run-left, written}
+use Rattle.sbr_run.proofs.Receive.{read-back-by}
+
+-- a writable record is refused for room only
+room-by : (g : Grid) (w : Wrote) (e : Refusal) (a b : Bool) → a ≡ true → _≡_ {A = Outcome Wrote} (cond a (cond b (answered w) (refused Room)) (refused Unwritable)) (refused e) → e ≡ Room
+room-by g w e true true p q = let z : _≡_ {A = ℕ} 0 1 = cc in absurd (omega arith)
+room-by g w e true false p q = cc
+room-by g w e false b p q = let z : _≡_ {A = ℕ} 0 1 = cc in absurd (omega arith)
+
+room-only : (g : Grid) → writable g ≡ true → (bytes : List ℕ) (p : ℕ) (e : Refusal) → writeGrid bytes p g ≡ refused e → e ≡ Room
+unfolding writeGrid
+room-only g f bytes p e q = room-by g _ e (writable g) (roomFor (length bytes) p (length (gridBits g))) f q
+
+-- ---- two streams
+
+-- two frames whose bits begin alike have one record, and alike bits behind
+heads : (n b n′ b′ : ℕ) (f g : Sent) (u v : List Bool) → Good n b f → Good n′ b′ g → gridBits (f .grid) ++ u ≡ gridBits (g .grid) ++ v → (f .grid ≡ g .grid) × (u ≡ v)
+heads n b n′ b′ f g u v x y e =
+    let p : _≡_ {A = Outcome (Grid × List Bool)} (answered (f .grid, u)) (answered (g .grid, v)) = sym (x .reads u) ∙ ap sbrGrid e ∙ y .reads v in
+    let q : _≡_ {A = Grid × List Bool} (f .grid, u) (g .grid, v) = cc in
+    (ap (λ (z : Grid × List Bool). z .0) q, ap (λ (z : Grid × List Bool). z .1) q)
+
+fronts : (n b b′ e e′ : ℕ) (f g : Sent) (fs gs : List Sent) (u v : List Bool) → GoodChain n b (f ∷ fs) e → GoodChain n b′ (g ∷ gs) e′ → stream (f ∷ fs) ++ u ≡ stream (g ∷ gs) ++ v
+    → (f .grid ≡ g .grid) × (stream fs ++ u ≡ stream gs ++ v)
+fronts n b b′ e e′ f g fs gs u v x y q =
+    heads n b n b′ f g (stream fs ++ u) (stream gs ++ v) (x .0) (y .0)
+    (sym (append-assoc (gridBits (f .grid)) (stream fs) u) ∙ q ∙ append-assoc (gridBits (g .grid)) (stream gs) v)
+
+-- frames of two chains of one slot count whose streams begin alike are the same, as far as both go
+same-frames : (n b b′ e e′ : ℕ) (fs gs : List Sent) (u v : List Bool) → GoodChain n b fs e → GoodChain n b′ gs e′ → stream fs ++ u ≡ stream gs ++ v → (i : ℕ) (d : Sent) → i < length fs → i < length gs
+    → (getD fs i d .grid ≡ getD gs i d .grid) × (getD fs i d .time ≡ getD gs i d .time)
+same-frames n b b′ e e′ [] gs u v x y q i d h k = absurd (omega arith)
+same-frames n b b′ e e′ (f ∷ fs) [] u v x y q i d h k = absurd (omega arith)
+same-frames n b b′ e e′ (f ∷ fs) (g ∷ gs) u v x y q zero d h k =
+    let two = fronts n b b′ e e′ f g fs gs u v x y q in
+    (two .0, cc (sym (x .0 .frame-meets .derived) ∙ ap (timeGrid n) (two .0) ∙ y .0 .frame-meets .derived))
+same-frames n b b′ e e′ (f ∷ fs) (g ∷ gs) u v x y q (suc i) d h k =
+    same-frames n (lastBorder (f .time)) (lastBorder (g .time)) e e′ fs gs u v (x .1) (y .1) (fronts n b b′ e e′ f g fs gs u v x y q .1) i d (omega arith) (omega arith)
+
+-- so neither of two streams begins the other where a frame differs
+apart-by : (r r′ : Terms) (b b′ e e′ : ℕ) (fs gs : List Sent) → r .slots ≡ r′ .slots → GoodChain (r .slots) b fs e → GoodChain (r′ .slots) b′ gs e′ → (i : ℕ) (d : Sent) → i < length fs → i < length gs
+    → Differ (frameOf r (getD fs i d)) (frameOf r′ (getD gs i d)) → (v : List Bool) → stream fs ++ v ≡ stream gs → ⊥
+apart-by r r′ b b′ e e′ fs gs s x y i d h k ne v q =
+    let y′ = subst (λ (n : ℕ). GoodChain n b′ gs e′) (sym s) y in
+    let p = same-frames (r .slots) b b′ e e′ fs gs v [] x y′ (q ∙ sym (append-nil (stream gs))) i d h k in
+    ne (ap (λ (g : Grid). g .frameClass) (p .0)) (ap (λ (t : Times). t .tE) (p .1)) (ap (λ (t : Times). t .lA) (p .1)) (ap (λ (g : Grid). g .freqRes) (p .0))
+
+differ-sym : (a b : Frame) → Differ a b → Differ b a
+differ-sym a b ne c bs m rs = ne (sym c) (sym bs) (sym m) (sym rs)
+
+-- ---- energies
+
+length-row : (x : SampleAt) (table : List ℕ) (env : Span) → length (row x table env) ≡ length table - 1
+length-row x table env = length-map (spans table) (meanIn x env) ∙ length-spans table 0 (length table - 1)
+
+pick : (f : Bool) (high low : List ℕ) → length (cond f high low) - 1 ≡ cond f (length high - 1) (length low - 1)
+pick true high low = refl
+pick false high low = refl
+
+-- as many numbers as the row lengths say, where there is an envelope for each flag
+length-rows : (x : SampleAt) (high low : List ℕ) (fs : List Bool) (envs : List Span) → length fs ≡ length envs → length (rows x high low fs envs) ≡ sumOf (rowLengths high low fs)
+unfolding rows
+length-rows x high low [] envs e = refl
+length-rows x high low (f ∷ fs) [] e = absurd (omega arith)
+length-rows x high low (f ∷ fs) (env ∷ envs) e =
+    length-append (row x (cond f high low) env) (rows x high low fs envs)
+    ∙ omega (arith, length-row x (cond f high low) env, pick f high low, length-rows x high low fs envs (omega arith))
+
+fitted-is : (room : ℕ) (all es : List Float) (b : Bool) → _≡_ {A = Outcome (List Float)} (cond b (answered all) (refused Room)) (answered es) → all ≡ es
+fitted-is room all es true e = cc
+fitted-is room all es false e = let z : _≡_ {A = ℕ} 0 1 = cc in absurd (omega arith)
+
+count-timed : (n : ℕ) (high low : List ℕ) (x : SampleAt) (g : Grid) (room : ℕ) (es : List Float) (o : Outcome Times) → timeGrid n g ≡ o → rowsOf x high low g room o ≡ answered es
+    → length es ≡ sumOf (rowLengths high low (g .freqRes))
+count-timed n high low x g room es (refused r) q e = let z : _≡_ {A = ℕ} 0 1 = cc in absurd (omega arith)
+count-timed n high low x g room es (answered t) q e =
+    let ends = time-ends n g t q in
+    let all = rows x high low (g .freqRes) (spans (t .tE)) in
+    ap length (sym (fitted-is room all es (leb (length all) room) e))
+    ∙ length-rows x high low (g .freqRes) (spans (t .tE)) (omega (arith, length-spans (t .tE) 0 (length (t .tE) - 1), ends .count))
+
+count-by : (n : ℕ) (high low : List ℕ) (x : List Float) (g : Grid) (room : ℕ) (es : List Float) (a b c : Bool)
+    → cond a (cond b (cond c (rowsOf (columns x) high low g room (timeGrid n g)) (refused Samples)) (refused Tables)) (refused SlotCount) ≡ answered es
+    → length es ≡ sumOf (rowLengths high low (g .freqRes))
+count-by n high low x g room es true true true e = count-timed n high low (columns x) g room es (timeGrid n g) refl e
+count-by n high low x g room es true true false e = let z : _≡_ {A = ℕ} 0 1 = cc in absurd (omega arith)
+count-by n high low x g room es true false c e = let z : _≡_ {A = ℕ} 0 1 = cc in absurd (omega arith)
+count-by n high low x g room es false b c e = let z : _≡_ {A = ℕ} 0 1 = cc in absurd (omega arith)
+
+energies-count : (n : ℕ) (high low : List ℕ) (x : List Float) (g : Grid) (room : ℕ) (es : List Float) → energies n high low x g room ≡ answered es
+    → length es ≡ sumOf (rowLengths high low (g .freqRes))
+unfolding energies
+energies-count n high low x g room es e = count-by n high low x g room es (slotCount n) (tablesFit high low) (leb (samplesNeeded n) (length x)) e
+
+-- ---- the claim
+
+pub term3 : Term3
+term3 = record {
+  sendable = λ n high low x previous variable e a.
+      let s = every-election n high low x previous variable e a in
+      record { timed = (s .time, s .derived); room-only = room-only (e .grid) (s .fits) };
+  written = written;
+  read-back = λ r s ts u bytes q h rs own. read-back-by r (sent ts) (s .border) (after s ts .border) bytes q rs (run-left r s ts u .chain) h own;
+  energies-count = energies-count;
+  apart = λ r r′ s s′ ts ts′ u u′ same i d h k ne.
+      let c = run-left r s ts u .chain in
+      let c′ = run-left r′ s′ ts′ u′ .chain in
+      record {
+        first = apart-by r r′ (s .border) (s′ .border) (after s ts .border) (after s′ ts′ .border) (sent ts) (sent ts′) same c c′ i d h k ne;
+        second = apart-by r′ r (s′ .border) (s .border) (after s′ ts′ .border) (after s ts .border) (sent ts′) (sent ts) (sym same) c′ c i d k h (differ-sym (frameOf r (getD (sent ts) i d)) (frameOf r′ (getD (sent ts′) i d)) ne);
+      };
+}

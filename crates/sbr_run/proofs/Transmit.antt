@@ -1,0 +1,127 @@
+-- A list of turns: what it leaves.
+use mathlib.Core.Path.{_≡_, refl, sym, ap, _∙_, subst}
+use mathlib.Core.Bool.{Bool, true}
+use mathlib.Core.List.{List, [], _∷_, _++_, append-assoc}
+use Prim.Native.Nat.{ℕ, zero, suc, _+_, _-_, _*_, _^_, _≤_, _<_, min}
+use native.Mathlib.Nat.{add-zero}
+use native.Mathlib.Omega.{arith}
+use lib.ListN.{length, getD, length-append}
+use Rattle.bits.specs.Bits.{bitsAt, putBits}
+use Rattle.bits.specs.Room.{endOf, bitsFrom}
+use Rattle.bits.proofs.Stream.{length-putBits, put-append, bitsAt-add, kept-before, bits-put}
+use Rattle.bits.proofs.After.{kept-after}
+use Rattle.bits.proofs.Room.{room}
+use Rattle.sbr_grid.specs.Refusals.{Outcome, answered, refused}
+use Rattle.sbr_writer.specs.Syntax.{gridBits}
+use Rattle.sbr_writer.specs.Write.{Wrote}
+use Rattle.sbr_run.specs.Run.{Turn, Sent, Turned, turn, Terms, State, lastBorder, moved, after, counted, sent, HandsIn, OwnTurn, Turns, Run, stream, Chain}
+use Rattle.sbr_run.specs.Readings.{Holds}
+use Rattle.sbr_run.specs.Claim.{Written}
+use Rattle.sbr_run.proofs.OneFrame.{calls, puts, Good, InReach, good-frame}
+
+-- frames that a receiver can read, each from where the one before ended
+abbrev pub GoodChain : ℕ → ℕ → List Sent → ℕ → Type 0
+GoodChain n b [] e = e ≡ b
+GoodChain n b (f ∷ fs) e = Good n b f × GoodChain n (lastBorder (f .time)) fs e
+
+pub chain-of : (n b : ℕ) (fs : List Sent) (e : ℕ) → GoodChain n b fs e → Chain n b fs e
+chain-of n b [] e c = c
+chain-of n b (f ∷ fs) e c = (c .0 .frame-meets, chain-of n (lastBorder (f .time)) fs e (c .1))
+
+-- the frames' bits one after another from the first position, and every other bit as it was
+pub record Left (n : ℕ) (s z : State) (fs : List Sent) : Type 0 where
+  pub chain : GoodChain n (s .border) fs (z .border)
+  pub ends : z .position ≡ s .position + length (stream fs)
+  pub bytes : z .bytes ≡ putBits (s .bytes) (s .position) (stream fs)
+  pub fits : 0 < length fs → (s .position + length (stream fs) ≤ 8 * length (s .bytes)) × (s .position + length (stream fs) < 2 ^ 64)
+
+-- a state that leaves no frame
+pub left-none : (n : ℕ) (s : State) → Left n s s []
+unfolding putBits
+left-none n s = record { chain = refl; ends = sym (add-zero (s .position)); bytes = refl; fits = λ h. absurd (omega arith) }
+
+-- the room of all frames, from that of the first and that of the others
+fit : (f : Sent) (fs : List Sent) (p len len′ : ℕ) → (p + length (gridBits (f .grid)) ≤ 8 * len) × (p + length (gridBits (f .grid)) < 2 ^ 64) → len′ ≡ len
+    → (0 < length fs → (p + length (gridBits (f .grid)) + length (stream fs) ≤ 8 * len′) × (p + length (gridBits (f .grid)) + length (stream fs) < 2 ^ 64))
+    → (p + length (stream (f ∷ fs)) ≤ 8 * len) × (p + length (stream (f ∷ fs)) < 2 ^ 64)
+fit f [] p len len′ a e h = omega (arith, a, length-append (gridBits (f .grid)) (stream []))
+fit f (g ∷ fs) p len len′ a e h = let k = h (omega arith) in omega (arith, k, e, length-append (gridBits (f .grid)) (stream (g ∷ fs)))
+
+-- one frame more in front
+pub left-more : (n : ℕ) (s z : State) (f : Sent) (fs : List Sent) → Good n (s .border) f
+    → (s .position + length (gridBits (f .grid)) ≤ 8 * length (s .bytes)) × (s .position + length (gridBits (f .grid)) < 2 ^ 64)
+    → Left n (record { border = lastBorder (f .time); position = s .position + length (gridBits (f .grid)); bytes = putBits (s .bytes) (s .position) (gridBits (f .grid)) }) z fs
+    → Left n s z (f ∷ fs)
+left-more n s z f fs g a w =
+    let c = gridBits (f .grid) in
+    record {
+      chain = (g, w .chain);
+      ends = omega (arith, w .ends, length-append c (stream fs));
+      bytes = w .bytes ∙ sym (put-append (s .bytes) (s .position) c (stream fs));
+      fits = λ h. fit f fs (s .position) (length (s .bytes)) _ a (length-putBits (s .bytes) (s .position) c) (w .fits);
+    }
+
+-- one turn, by what it comes to
+step : (r : Terms) (s z : State) (t : Turn) (fs : List Sent) (o : Outcome Turned) → InReach (r .slots) s → turn t ≡ o → OwnTurn r s t o → Left (r .slots) (moved s o) z fs
+    → Left (r .slots) s z (counted o fs)
+step r s z t fs (refused e) i q own w = w
+step r s z t fs (answered a) i q own w =
+    let p = puts (t .bytes) (t .position) (a .sent .grid) (a .wrote) (calls t a q .writes) in
+    let k = room (length (t .bytes)) (t .position) (length (gridBits (a .sent .grid))) (p .room) in
+    let c = gridBits (a .sent .grid) in
+    let bytes : a .wrote .bytes ≡ putBits (s .bytes) (s .position) c = p .bytes ∙ λ j. putBits (own .bytes j) (own .position j) c in
+    let position : a .wrote .position ≡ s .position + length c = p .position ∙ ap (λ (x : ℕ). x + length c) (own .position) in
+    left-more (r .slots) s z (a .sent) fs (good-frame r s t a i own q)
+    (omega (arith, k .within, k .holds, own .position, ap length (own .bytes)))
+    (subst (λ (x : State). Left (r .slots) x z fs) (λ j. record { border = lastBorder (a .sent .time); position = position j; bytes = bytes j }) w)
+
+-- what is carried stays within reach
+reach : (r : Terms) (s : State) (t : Turn) (o : Outcome Turned) → InReach (r .slots) s → turn t ≡ o → OwnTurn r s t o → InReach (r .slots) (moved s o)
+reach r s t (refused e) i q own = i
+reach r s t (answered a) i q own = let m = good-frame r s t a i own q .frame-meets in record { from = m .from; by = m .by }
+
+pub transmit : (r : Terms) (s : State) (ts : List Turn) → InReach (r .slots) s → Turns r s ts → Left (r .slots) s (after s ts) (sent ts)
+transmit r s [] i h = left-none (r .slots) s
+transmit r s (t ∷ ts) i h =
+    step r s (after (moved s (turn t)) ts) t (sent ts) (turn t) i refl (h .0)
+    (transmit r (moved s (turn t)) ts (reach r s t (turn t) i refl (h .0)) (h .1))
+
+-- ---- the bytes
+
+-- bytes with bits put into them hold these
+held : (l : List ℕ) (p : ℕ) (bs : List Bool) → p + length bs ≤ 8 * length l → p + length bs < 2 ^ 64 → Holds (putBits l p bs) p bs
+unfolding endOf
+held l p bs a b =
+    let m = putBits l p bs in
+    let n = length bs in
+    let len = length-putBits l p bs in
+    let e = min (8 * length m) (2 ^ 64 - 1) in (
+      bitsAt m (p + n) (e - p - n),
+      ap (bitsAt m p) (omega (arith, len)) ∙ bitsAt-add m p n (e - p - n) ∙ ap (λ (x : List Bool). x ++ bitsAt m (p + n) (e - p - n)) (bits-put l p bs a),
+    )
+
+-- the run's own bytes hold its stream
+holds-by : (n : ℕ) (s z : State) (fs : List Sent) → Left n s z fs → Holds (z .bytes) (s .position) (stream fs)
+holds-by n s z [] w = (bitsFrom (z .bytes) (s .position), refl)
+holds-by n s z (f ∷ fs) w =
+    let k = w .fits (omega arith) in
+    subst (λ (m : List ℕ). Holds m (s .position) (stream (f ∷ fs))) (sym (w .bytes)) (held (s .bytes) (s .position) (stream (f ∷ fs)) (k .0) (k .1))
+
+pub run-reach : (r : Terms) (s : State) (ts : List Turn) → Run r s ts → InReach (r .slots) s
+run-reach r s ts u = record { from = u .from; by = u .by }
+
+pub run-left : (r : Terms) (s : State) (ts : List Turn) → Run r s ts → Left (r .slots) s (after s ts) (sent ts)
+run-left r s ts u = transmit r s ts (run-reach r s ts u) (u .turns)
+
+pub written : (r : Terms) (s : State) (ts : List Turn) → Run r s ts → Written r s ts
+written r s ts u =
+    let w = run-left r s ts u in
+    let str = stream (sent ts) in
+    record {
+      chain = chain-of (r .slots) (s .border) (sent ts) (after s ts .border) (w .chain);
+      ends = w .ends;
+      holds = holds-by (r .slots) s (after s ts) (sent ts) w;
+      before = λ q k h. ap (λ (m : List ℕ). bitsAt m q k) (w .bytes) ∙ kept-before (s .bytes) (s .position) q k str h;
+      behind = λ q k h. ap (λ (m : List ℕ). bitsAt m q k) (w .bytes) ∙ kept-after (s .bytes) (s .position) q k str (omega (arith, h, w .ends));
+      size = ap length (w .bytes) ∙ length-putBits (s .bytes) (s .position) str;
+    }

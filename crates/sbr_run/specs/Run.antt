@@ -1,0 +1,157 @@
+-- A transmitter's run: document 01, "Runs, for term 3". The calls are those of the public contracts: `elect`, `timeGrid`, `writeGrid`.
+use mathlib.Core.Path.{_≡_}
+use mathlib.Core.Bool.{Bool, cond}
+use mathlib.Core.List.{List, [], _∷_, _++_, map}
+use Prim.Native.Nat.{ℕ, _+_, _-_, _≤_}
+use lib.IntN.{ℤ, pos}
+use lib.ListN.{length, getD}
+use lib.Ieee.{Float}
+use Rattle.sbr_grid.specs.declared.FrameClass.{FrameClass}
+use Rattle.sbr_grid.specs.Refusals.{Outcome, answered, refused}
+use Rattle.sbr_grid.specs.Grid.{Grid}
+use Rattle.sbr_time_grid.specs.TimeGrid.{Times, timeGrid}
+use Rattle.sbr_writer.specs.Syntax.{gridBits}
+use Rattle.sbr_writer.specs.Write.{Wrote, writeGrid}
+use Rattle.sbr_encoder.specs.Election.{elect}
+
+-- ---- a turn
+
+-- what a turn hands in: to the election, to the time grid of the elected record, to its writing
+pub record Turn : Type 0 where
+  pub slots : ℕ
+  pub high : List ℕ
+  pub low : List ℕ
+  pub samples : List Float
+  pub previous : ℤ
+  pub variable : Bool
+  pub timeSlots : ℕ
+  pub bytes : List ℕ
+  pub position : ℕ
+
+-- a record with its time grid
+pub record Sent : Type 0 where
+  pub grid : Grid
+  pub time : Times
+
+-- what a turn comes to where all three calls answer
+pub record Turned : Type 0 where
+  pub sent : Sent
+  pub wrote : Wrote
+
+-- the next call, where the one before answered
+abbrev pub next : {A B : Type 0} → Outcome A → (A → Outcome B) → Outcome B
+next (answered a) f = f a
+next (refused e) f = refused e
+
+-- three calls; the one that refuses is the last
+unfoldable pub turn : Turn → Outcome Turned
+turn t =
+    next (elect (t .slots) (t .high) (t .low) (t .samples) (t .previous) (t .variable)) (λ e.
+    next (timeGrid (t .timeSlots) (e .grid)) (λ tm.
+    next (writeGrid (t .bytes) (t .position) (e .grid)) (λ w.
+    answered (record { sent = record { grid = e .grid; time = tm }; wrote = w }))))
+
+-- ---- lists of turns
+
+-- what a run keeps: its slot count and its tables
+pub record Terms : Type 0 where
+  pub slots : ℕ
+  pub high : List ℕ
+  pub low : List ℕ
+
+-- what is carried from turn to turn: border, position and bytes
+pub record State : Type 0 where
+  pub border : ℕ
+  pub position : ℕ
+  pub bytes : List ℕ
+
+abbrev pub firstBorder : Times → ℕ
+firstBorder t = getD (t .tE) 0 0
+
+abbrev pub lastBorder : Times → ℕ
+lastBorder t = getD (t .tE) (length (t .tE) - 1) 0
+
+-- where all calls answer, the frame's last border is carried and the writer's position and bytes are kept; else nothing moves
+abbrev pub moved : State → Outcome Turned → State
+moved s (answered a) =
+    record { border = lastBorder (a .sent .time); position = a .wrote .position; bytes = a .wrote .bytes }
+moved s (refused e) = s
+
+abbrev pub after : State → List Turn → State
+after s [] = s
+after s (t ∷ ts) = after (moved s (turn t)) ts
+
+-- the frames sent, in order
+abbrev pub counted : Outcome Turned → List Sent → List Sent
+counted (answered a) fs = a .sent ∷ fs
+counted (refused e) fs = fs
+
+abbrev pub sent : List Turn → List Sent
+sent [] = []
+sent (t ∷ ts) = counted (turn t) (sent ts)
+
+-- the run's slot count and tables, and the border, position and bytes that the last turn left; samples and switch are free
+pub record HandsIn (r : Terms) (s : State) (t : Turn) : Type 0 where
+  pub slots : t .slots ≡ r .slots
+  pub high : t .high ≡ r .high
+  pub low : t .low ≡ r .low
+  pub previous : t .previous ≡ pos (s .border)
+  pub timeSlots : t .timeSlots ≡ r .slots
+  pub bytes : t .bytes ≡ s .bytes
+  pub position : t .position ≡ s .position
+
+-- turns that answer hand these in, refused ones anything
+abbrev pub OwnTurn : Terms → State → Turn → Outcome Turned → Type 0
+OwnTurn r s t (answered a) = HandsIn r s t
+OwnTurn r s t (refused e) = Unit {0}
+
+abbrev pub Turns : Terms → State → List Turn → Type 0
+Turns r s [] = Unit {0}
+Turns r s (t ∷ ts) = OwnTurn r s t (turn t) × Turns r (moved s (turn t)) ts
+
+-- a run starts with a carried border from N to N + 3, any position and any bytes
+pub record Run (r : Terms) (s : State) (ts : List Turn) : Type 0 where
+  pub from : r .slots ≤ s .border
+  pub by : s .border ≤ r .slots + 3
+  pub turns : Turns r s ts
+
+-- ---- frames and the stream
+
+-- row lengths: for each envelope the entries of the table of its resolution, less 1
+abbrev pub rowLengths : List ℕ → List ℕ → List Bool → List ℕ
+rowLengths high low fs = map (λ f. cond f (length high - 1) (length low - 1)) fs
+
+pub record Frame : Type 0 where
+  pub class : FrameClass
+  pub borders : List ℕ
+  pub noise : List ℕ
+  pub mark : ℤ
+  pub resolutions : List Bool
+  pub rows : List ℕ
+
+-- class and resolutions of the record, borders, noise borders and mark of its time grid
+abbrev pub frameOf : Terms → Sent → Frame
+frameOf r f = record {
+  class = f .grid .frameClass;
+  borders = f .time .tE;
+  noise = f .time .tQ;
+  mark = f .time .lA;
+  resolutions = f .grid .freqRes;
+  rows = rowLengths (r .high) (r .low) (f .grid .freqRes);
+}
+
+-- the frames' sbr_grid() one after another
+abbrev pub stream : List Sent → List Bool
+stream [] = []
+stream (f ∷ fs) = gridBits (f .grid) ++ stream fs
+
+-- each frame begins where the one before ended, the first at b, and ends 0 to 3 slots past n; the last one ends at e
+pub record Meets (n b : ℕ) (f : Sent) : Type 0 where
+  pub derived : timeGrid n (f .grid) ≡ answered (f .time)
+  pub begins : firstBorder (f .time) + n ≡ b
+  pub from : n ≤ lastBorder (f .time)
+  pub by : lastBorder (f .time) ≤ n + 3
+
+abbrev pub Chain : ℕ → ℕ → List Sent → ℕ → Type 0
+Chain n b [] e = e ≡ b
+Chain n b (f ∷ fs) e = Meets n b f × Chain n (lastBorder (f .time)) fs e
