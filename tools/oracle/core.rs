@@ -1,4 +1,4 @@
-//! Stand-in for the bit reader that the Rust source uses and that can't be had: most significant bit first.
+//! Stand-in for the bit reader and writer that the Rust source uses and that can't be had: most significant bit first.
 pub mod bits {
     pub struct BitReader<'a> {
         bytes: &'a [u8],
@@ -35,6 +35,24 @@ pub mod bits {
                 v = v * 2 + self.read_bit()? as u32;
             }
             Ok(v)
+        }
+    }
+
+    /// The bits written so far, in one number: a grid has at most 26.
+    #[derive(Default)]
+    pub struct BitWriter {
+        pub value: u64,
+        pub width: u32,
+    }
+
+    impl BitWriter {
+        pub fn write_u32(&mut self, v: u32, n: u32) {
+            self.value = self.value << n | (v as u64 & ((1 << n) - 1));
+            self.width += n;
+        }
+
+        pub fn write_bit(&mut self, b: bool) {
+            self.write_u32(b as u32, 1);
         }
     }
 }

@@ -3,24 +3,9 @@
 //! prints each listing and a line with a dot.
 use std::io::{Read, Write};
 
-#[derive(Debug)]
-pub enum Error {
-    SbrGridInvalid,
-}
-
-pub type Result<T> = std::result::Result<T, Error>;
-
-#[allow(dead_code)]
-mod sbr_grid {
-    include!(concat!(env!("SBR_CUT"), "/sbr_grid.rs"));
-}
-
-#[allow(dead_code)]
-mod sbr_time_grid {
-    include!(concat!(env!("SBR_CUT"), "/sbr_time_grid.rs"));
-}
-
+use oracle::{sbr_grid, sbr_time_grid};
 use oxideav_core::bits::BitReader;
+extern crate oxideav_core;
 
 fn spaced(xs: &[i32]) -> String {
     xs.iter().map(|x| x.to_string()).collect::<Vec<_>>().join(" ")
