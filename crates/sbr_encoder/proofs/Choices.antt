@@ -25,9 +25,10 @@ use Rattle.sbr_onsets.specs.Onsets.{halvesAlike, onsetsOf, leadOf}
 use Rattle.sbr_onsets.proofs.OnsetSame.{onsets-array, halves-array}
 use Rattle.sbr_onsets.proofs.OnsetLead.{frame-case}
 use Rattle.sbr_plan.proofs.Every.{chosen-is-sound}
-use Rattle.sbr_plan.specs.declared.Onsets.{Onsets}
-use Rattle.sbr_plan.specs.Elect.{onsetList, chosenGrid}
-use Rattle.sbr_plan.proofs.BuildCases.{chosen-none, chosen-some}
+use Rattle.sbr_search.specs.declared.Onsets.{Onsets}
+use Rattle.sbr_search.specs.Forms.{onsetList}
+use Rattle.sbr_plan.specs.Elect.{chosenGrid}
+use Rattle.sbr_plan.proofs.PlanCases.{chosen-none, chosen-some}
 use Rattle.sbr_encoder.specs.declared.Election.{Election}
 use Rattle.sbr_encoder.specs.Election.{Elected, hasOnset, resolved, electedOf, electionOf}
 use Rattle.sbr_encoder.proofs.Kept.{chosen-kept}

@@ -18,7 +18,7 @@ use Rattle.sbr_time_grid.proofs.Ends.{time-ends}
 use Rattle.sbr_qmf.specs.Qmf.{Samples as SampleAt, columns}
 use Rattle.sbr_energy.specs.Energy.{slotEnergy}
 use Rattle.sbr_reader.proofs.Inverse.{reads-back}
-use Rattle.sbr_plan.specs.Plans.{Case}
+use Rattle.sbr_search.specs.Plans.{Case}
 use Rattle.sbr_plan.specs.Elect.{chosenGrid}
 use Rattle.sbr_plan.specs.Chosen.{Sound}
 use Rattle.sbr_plan.proofs.Every.{chosen-is-sound}

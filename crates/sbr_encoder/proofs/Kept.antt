@@ -10,7 +10,7 @@ use Rattle.sbr_grid.specs.declared.FrameClass.the-variants.{FixFix, FixVar, Var
 use Rattle.sbr_grid.specs.Grid.{classCode, classOf, Grid}
 use Rattle.sbr_writer.specs.Write.{every, writable, fieldsFit, classFits}
 use Rattle.sbr_reader.specs.Inverse.{cleared}
-use Rattle.sbr_plan.specs.Plans.{Case}
+use Rattle.sbr_search.specs.Plans.{Case}
 use Rattle.sbr_plan.specs.Elect.{chosenGrid}
 use Rattle.sbr_plan.proofs.Computed.{chosenOf}
 use Rattle.sbr_plan.proofs.Every.{allCases, at-case}

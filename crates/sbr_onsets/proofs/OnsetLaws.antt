@@ -15,7 +15,7 @@ use lib.Ieee.{Float, binary64}
 use Rattle.sbr_grid.specs.Grid.{first}
 use Rattle.sbr_grid.proofs.Laws.{first-take}
 use Rattle.sbr_energy.specs.Floats.{zero64, maxOf, minOf, total, meanOf, floor64}
-use Rattle.sbr_plan.specs.Plans.{OnsetsFrom}
+use Rattle.sbr_search.specs.Plans.{OnsetsFrom}
 use Rattle.sbr_onsets.specs.Onsets.{eight, nano, tenth, one64, half, two64, peakOf, isAttack, onsetsFrom, detectOnsets, halvesAlike}
 use Rattle.sbr_onsets.proofs.OnsetSame.{total-same}
 

@@ -1,12 +1,12 @@
 // Onsets of a frame from its slot energies, and its lead: src/sbr_encoder.rs.
 use sbr_grid::SbrGrid;
-use sbr_plan::Onsets;
+use sbr_search::Onsets;
 ghost use mathlib.Core.Path.{_≡_};
 ghost use mathlib.Core.Bool.{true};
 ghost use Prim.Native.Nat.{ℕ, _+_, _-_, _≤_, _<_};
 ghost use lib.ListN.{getD};
 ghost use Rattle.sbr_energy.specs.Floats.{zero64, total};
-ghost use Rattle.sbr_plan.specs.Elect.{onsetList};
+ghost use Rattle.sbr_search.specs.Forms.{onsetList};
 ghost use Rattle.sbr_time_grid.specs.TimeGrid.{slotCount};
 ghost use Rattle.sbr_onsets.specs.Onsets.{peakOf, isAttack, detectOnsets, halvesAlike, onsetsOf, leadOf};
 

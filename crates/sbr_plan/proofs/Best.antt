@@ -11,9 +11,9 @@ use lib.Ieee.Fits.{and-i, and-l, and-r}
 use Rattle.sbr_grid.specs.Refusals.{Outcome, answered, refused}
 use Rattle.sbr_grid.specs.Grid.{Grid}
 use Rattle.sbr_time_grid.specs.TimeGrid.{Times, timeGrid}
-use Rattle.sbr_plan.specs.declared.search.WantedBorder.{WantedBorder}
-use Rattle.sbr_plan.specs.Search.{shiftCount, places, risesFrom, lastOr, leadingSteps, trailingSteps, allEven, reaches, Plan, Best, search, bare, isolated, planGrid, planned, plainWins, multiOnsetGrid}
-use Rattle.sbr_plan.specs.Plans.{Case, Shifts, IsPlan, cost, turn, rank, Least, Answers, PlansHaveTimes, Searched, SearchIsLeast, Neither, NoneExactly}
+use Rattle.sbr_search.specs.declared.WantedBorder.{WantedBorder}
+use Rattle.sbr_search.specs.Search.{shiftCount, places, risesFrom, lastOr, leadingSteps, trailingSteps, allEven, reaches, Plan, Best, search, bare, isolated, planGrid, planned, plainWins, multiOnsetGrid}
+use Rattle.sbr_search.specs.Plans.{Case, Shifts, IsPlan, cost, turn, rank, Least, Answers, PlansHaveTimes, Searched, SearchIsLeast, Neither, NoneExactly}
 use Rattle.sbr_plan.proofs.Computed.{timesOf, searched, chosenOf}
 use Rattle.sbr_plan.proofs.Every.{allFrom, at-from, allOnsets, allFrames, at-frame}
 

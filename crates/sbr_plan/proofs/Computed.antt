@@ -6,9 +6,9 @@ use mathlib.Core.Option.{Option}
 use Rattle.sbr_grid.specs.Refusals.{Outcome}
 use Rattle.sbr_grid.specs.Grid.{Grid}
 use Rattle.sbr_time_grid.specs.TimeGrid.{Times, timeGrid, slotCount, countsFit, bordersFit, noiseFits, absBordLead, absBordTrail, nRelLead, nRelTrail, relBordLead, sum, listFrom, tE, rises, middleBorder, lA, tQ}
-use Rattle.sbr_plan.specs.declared.search.WantedBorder.{WantedBorder}
-use Rattle.sbr_plan.specs.Build.{fixfixGrid, varvarGrid, shares, varfixPlain, segmentsBy, lateAttackVarvar, doubleAttackGrid, fixvarSegs, varfixSegs, fixvarGrid, varfixGrid, variableGrid}
-use Rattle.sbr_plan.specs.Search.{places, prices, nextShifts, risesFrom, lastOr, stepsUp, stepsDown, allEven, reaches, fit, tryEnds, tryShifts, tryFrom, Best, search, multiOnsetGrid}
+use Rattle.sbr_search.specs.declared.WantedBorder.{WantedBorder}
+use Rattle.sbr_build.specs.Build.{fixfixGrid, varvarGrid, shares, varfixPlain, segmentsBy, lateAttackVarvar, doubleAttackGrid, fixvarSegs, varfixSegs, fixvarGrid, varfixGrid, variableGrid}
+use Rattle.sbr_search.specs.Search.{places, prices, nextShifts, risesFrom, lastOr, stepsUp, stepsDown, allEven, reaches, fit, tryEnds, tryShifts, tryFrom, Best, search, multiOnsetGrid}
 use Rattle.sbr_plan.specs.Elect.{attackGrid, plainGrid, chosenGrid}
 
 unfoldable pub timesOf : ℕ → Grid → Outcome Times

@@ -13,7 +13,7 @@ use lib.ListN.{getD}
 use Rattle.sbr_grid.specs.Refusals.{Outcome, answered, refused}
 use Rattle.sbr_grid.specs.Grid.{Grid, numEnv}
 use Rattle.sbr_time_grid.specs.TimeGrid.{Times, slotCount, timeGrid}
-use Rattle.sbr_plan.specs.Plans.{OnsetsFrom, Case}
+use Rattle.sbr_search.specs.Plans.{OnsetsFrom, Case}
 use Rattle.sbr_plan.specs.Elect.{chosenGrid}
 use Rattle.sbr_plan.specs.Chosen.{Sound, ChosenIsSound}
 use Rattle.sbr_plan.proofs.Computed.{timesOf, chosenOf}

@@ -1,12 +1,4 @@
-pub mod BuildCases
-pub mod BuildGrids
-pub mod BuildLaws
-pub mod BuildLists
-pub mod SearchCases
-pub mod SearchEnds
-pub mod SearchLists
-pub mod SearchShifts
-pub mod SearchWalks
+pub mod PlanCases
 pub mod Computed
 pub mod Cases
 pub mod Every

@@ -8,7 +8,7 @@ use lib.ListN.{getD}
 use Rattle.sbr_grid.specs.Refusals.{Outcome, answered, refused}
 use Rattle.sbr_grid.specs.Grid.{Grid, numEnv}
 use Rattle.sbr_time_grid.specs.TimeGrid.{Times, timeGrid}
-use Rattle.sbr_plan.specs.Plans.{Case}
+use Rattle.sbr_search.specs.Plans.{Case}
 use Rattle.sbr_plan.specs.Elect.{chosenGrid}
 
 -- a grid with a time grid, from the lead to 0 to 3 slots past the frame, whose mark is not the envelope count

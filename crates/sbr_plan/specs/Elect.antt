@@ -5,33 +5,9 @@ use mathlib.Core.Option.{Option, none, some}
 use Prim.Native.Nat.{ℕ}
 use lib.Dec.{leb, eqb}
 use lib.ListN.{length}
-use Rattle.sbr_grid.specs.Grid.{first, Grid, recordOf, empty}
-use Rattle.sbr_plan.specs.declared.Onsets.{Onsets}
-use Rattle.sbr_plan.specs.declared.build.LateAttack.the-variants.{Late, NotLate}
-use Rattle.sbr_plan.specs.declared.build.DoubleAttack.the-variants.{Double, NotDouble}
-use Rattle.sbr_plan.specs.declared.search.MultiOnset.the-variants.{Planned, NoPlan}
-use Rattle.sbr_plan.specs.declared.build.LateGrid.{LateGrid}
-use Rattle.sbr_plan.specs.declared.build.DoubleGrid.{DoubleGrid}
-use Rattle.sbr_plan.specs.declared.search.MultiGrid.{MultiGrid}
-use Rattle.sbr_plan.specs.Build.{fixfixGrid, varfixPlain, lateAttackVarvar, doubleAttackGrid, variableGrid}
-use Rattle.sbr_plan.specs.Search.{multiOnsetGrid}
-
--- the onsets of an array with a count
-abbrev pub onsetList : Onsets → List ℕ
-onsetList o = first 0 (o .count) (o .slot)
-
--- the enum and the record that a builder hands out for a grid, or for none
-abbrev pub lateOf : Option Grid → LateGrid
-lateOf none = record { answer = NotLate; grid = empty }
-lateOf (some g) = record { answer = Late; grid = recordOf g }
-
-abbrev pub doubleOf : Option Grid → DoubleGrid
-doubleOf none = record { answer = NotDouble; grid = empty }
-doubleOf (some g) = record { answer = Double; grid = recordOf g }
-
-abbrev pub multiOf : Option Grid → MultiGrid
-multiOf none = record { answer = NoPlan; grid = empty }
-multiOf (some g) = record { answer = Planned; grid = recordOf g }
+use Rattle.sbr_grid.specs.Grid.{Grid}
+use Rattle.sbr_build.specs.Build.{fixfixGrid, varfixPlain, lateAttackVarvar, doubleAttackGrid, variableGrid}
+use Rattle.sbr_search.specs.Search.{multiOnsetGrid}
 
 -- a grid, or the next kind where there is none
 abbrev pub orGrid : Option Grid → Grid → Grid

@@ -1,6 +1,2 @@
-pub mod Build
-pub mod Search
-pub mod Plans
 pub mod Elect
 pub mod Chosen
-pub mod Forms

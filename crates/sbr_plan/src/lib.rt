@@ -1,28 +1,16 @@
 // The grid of a frame whose onsets are known: whole numbers only. From src/sbr_encoder.rs.
-use crate::build::DoubleAttack;
-use crate::build::LateAttack;
-use crate::search::MultiOnset;
+use sbr_build::DoubleAttack;
+use sbr_build::LateAttack;
 use sbr_grid::SbrGrid;
+use sbr_search::MultiOnset;
+use sbr_search::Onsets;
 ghost use mathlib.Core.Path.{_≡_};
 ghost use Prim.Native.Nat.{ℕ, _+_, _-_, _≤_, _<_};
 ghost use lib.ListN.{getD};
 ghost use Rattle.sbr_grid.specs.Grid.{recordOf};
-ghost use Rattle.sbr_plan.specs.Plans.{Case};
-ghost use Rattle.sbr_plan.specs.Elect.{onsetList, attackGrid, plainGrid, chosenGrid};
-
-mod build;
-mod search;
-
-// The onset slots of a frame, the first `count` places.
-pub struct Onsets {
-    pub count: usize,
-    pub slot: [u32; Onsets::MAX_ONSETS],
-}
-
-impl Onsets {
-    // Most onsets that a frame's grid can give an envelope each.
-    pub const MAX_ONSETS: usize = 3;
-}
+ghost use Rattle.sbr_search.specs.Plans.{Case};
+ghost use Rattle.sbr_search.specs.Forms.{onsetList};
+ghost use Rattle.sbr_plan.specs.Elect.{attackGrid, plainGrid, chosenGrid};
 
 // Variable borders: the search for three onsets, then the double grid, the search for two onsets, the late grid, one onset's grid.
 fn attack_grid(onsets: Onsets, lead: u32, nts: u32) -> SbrGrid
@@ -31,32 +19,32 @@ fn attack_grid(onsets: Onsets, lead: u32, nts: u32) -> SbrGrid
 {
     let s = onsets.slot[0];
     if onsets.count == Onsets::MAX_ONSETS {
-        let multi = search::multi_onset_grid(onsets, lead, nts);
+        let multi = sbr_search::multi_onset_grid(onsets, lead, nts);
         let answer = multi.answer;
         if let MultiOnset::Planned = answer {
             return multi.grid;
         }
     }
     if 2 <= onsets.count {
-        let double = build::double_attack_grid(s, onsets.slot[1], lead, nts);
+        let double = sbr_build::double_attack_grid(s, onsets.slot[1], lead, nts);
         let answer = double.answer;
         if let DoubleAttack::Double = answer {
             return double.grid;
         }
     }
     if onsets.count == 2 {
-        let multi = search::multi_onset_grid(onsets, lead, nts);
+        let multi = sbr_search::multi_onset_grid(onsets, lead, nts);
         let answer = multi.answer;
         if let MultiOnset::Planned = answer {
             return multi.grid;
         }
     }
-    let late = build::late_attack_varvar(s, lead, nts);
+    let late = sbr_build::late_attack_varvar(s, lead, nts);
     let answer = late.answer;
     if let LateAttack::Late = answer {
         return late.grid;
     }
-    build::variable_grid(s, lead, nts)
+    sbr_build::variable_grid(s, lead, nts)
 }
 
 // No variable borders but the lead.
@@ -65,9 +53,9 @@ fn plain_grid(num_env: usize, high: bool, lead: u32, nts: u32) -> SbrGrid
     ensures { λ r. ⌜ r ≡ recordOf (plainGrid «num_env» high lead nts) ⌝ }
 {
     if lead == 0 {
-        return build::fixfix_grid(num_env, high);
+        return sbr_build::fixfix_grid(num_env, high);
     }
-    build::varfix_plain(lead, num_env, nts)
+    sbr_build::varfix_plain(lead, num_env, nts)
 }
 
 // The grid for the onsets, the switch, and whether the two halves of the frame are alike.

@@ -10,8 +10,9 @@ use Prim.Native.Nat.{ℕ}
 use Rattle.sbr_grid.specs.Grid.{recordOf}
 use Rattle.sbr_energy.specs.Floats.{zero64}
 use Rattle.sbr_onsets.specs.Onsets.{halvesAlike, leadOf}
-use Rattle.sbr_plan.specs.Plans.{Case}
-use Rattle.sbr_plan.specs.Elect.{onsetList, chosenGrid}
+use Rattle.sbr_search.specs.Plans.{Case}
+use Rattle.sbr_search.specs.Forms.{onsetList}
+use Rattle.sbr_plan.specs.Elect.{chosenGrid}
 use Rattle.sbr_plan.proofs.Every.{slot-range}
 use Rattle.sbr_onsets.proofs.OnsetLead.{frame-case}
 use Rattle.sbr_encoder.proofs.Choices.{even-same, some-onset}

@@ -5,7 +5,8 @@ use mathlib.Core.Logic.{⊎-elim}
 use Prim.Native.Nat.{_≤_}
 use native.Mathlib.Omega.{arith}
 use borrow.Author.Needs.{needs}
-use Rattle.sbr_plan.proofs.BuildCases.{Bounds, bounds, chosen-none, chosen-some}
+use Rattle.sbr_search.proofs.SearchFrames.{Bounds, bounds}
+use Rattle.sbr_plan.proofs.PlanCases.{chosen-none, chosen-some}
 use Rattle.sbr_plan.proofs.choose_grid.Statement.{statement}
 use Rattle.sbr_plan.proofs.choose_grid.Tie as tie
 

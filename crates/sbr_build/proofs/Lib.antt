@@ -1,0 +1,3 @@
+pub mod BuildLaws
+pub mod BuildLists
+pub mod BuildGrids

@@ -1,0 +1,6 @@
+pub mod SearchFrames
+pub mod SearchCases
+pub mod SearchEnds
+pub mod SearchLists
+pub mod SearchShifts
+pub mod SearchWalks

@@ -1,0 +1,180 @@
+-- The search by its loops: the counts of leading lengths, the ends, the turns.
+use mathlib.Core.Path.{_≡_, refl, sym, ap, _∙_}
+use mathlib.Core.Bool.{Bool, true, false, cond, and-eq-true-iff, and-false}
+use mathlib.Core.List.{List, [], _∷_, map}
+use mathlib.Core.Option.{Option, none, some}
+use Prim.Native.Nat.{ℕ, zero, suc, _+_, _-_, _≤_, _<_}
+use native.Mathlib.Omega.{arith}
+use native.Mathlib.Numerals.{add-one}
+use native.Mathlib.Decide.{decLe}
+use borrow.Author.Tests.{lt-ltb, le-ltb, leb-true}
+use lib.Dec.{ltb}
+use lib.ListN.{length, replicate}
+use Rattle.sbr_grid.specs.Grid.{first}
+use Rattle.sbr_search.specs.declared.Turned.{Turned}
+use Rattle.sbr_search.specs.declared.Turn.the-variants.{Next, Last}
+use Rattle.sbr_search.specs.declared.WantedBorder.{WantedBorder}
+use Rattle.sbr_search.specs.declared.Fit.the-variants.{Leading, NoFit}
+use Rattle.sbr_search.specs.declared.Cost.{Cost}
+use Rattle.sbr_search.specs.declared.Cost.the-variants.{Total, NoTotal}
+use Rattle.sbr_search.specs.Search.{places, prices, risesFrom, lastOr, reaches, fit, Plan, Best, beats, tryEnds, nextShifts, tryShifts, tryFrom, search, onsetAt}
+use Rattle.sbr_search.specs.Forms.{turnList, fitOf, bestBy}
+
+-- what is not below is at least as large
+le-of-not : (c d : ℕ) → (c < d → ⊥) → Dec (suc c ≤ d) → d ≤ c
+le-of-not c d f (yes h) = absurd (f h)
+le-of-not c d f (no h) = omega arith
+
+-- the next law, by the first test
+same-by : (a b c d : ℕ) → (a < b → c < d) → (c < d → a < b) → Dec (suc a ≤ b) → ltb a b ≡ ltb c d
+same-by a b c d f g (yes h) = rw (lt-ltb a b h, lt-ltb c d (f h))
+same-by a b c d f g (no h) = rw (le-ltb a b (omega arith), le-ltb c d (le-of-not c d (λ k. h (g k)) (decLe (suc c) d)))
+
+-- two tests that hold together are equal
+pub ltb-same : (a b c d : ℕ) → (a < b → c < d) → (c < d → a < b) → ltb a b ≡ ltb c d
+ltb-same a b c d f g = same-by a b c d f g (decLe (suc a) b)
+
+-- what is left of n at k, as one more than what is left at k + 1
+left : (n k : ℕ) → k < n → n - k ≡ suc (n - (k + 1))
+left n k h = omega arith
+
+module _ (n k lead t : ℕ) (bs : List ℕ) (h : k < n) where
+  -- k leading lengths do not reach every border: the next count
+  pub fit-next : (o : Option ℕ) → reaches lead t k bs ≡ false → fit (n - k) k lead t bs ≡ o → fit (n - (k + 1)) (k + 1) lead t bs ≡ o
+  unfolding fit
+  fit-next o e f = rw (add-one k) (rw (left n k h, e, add-one k) at f)
+
+  -- k leading lengths reach every border
+  pub fit-stop : (o : Option ℕ) → reaches lead t k bs ≡ true → fit (n - k) k lead t bs ≡ o → some k ≡ o
+  unfolding fit
+  fit-stop o e f = rw (left n k h, e) at f
+
+-- no count is left
+pub fit-end : (n k lead t : ℕ) (bs : List ℕ) (o : Option ℕ) → n ≤ k → fit (n - k) k lead t bs ≡ o → none ≡ o
+unfolding fit
+fit-end n k lead t bs o h f = let e : n - k ≡ 0 = omega arith in rw e at f
+
+-- an answer with a count has that count
+pub fit-leading : (o : Option ℕ) (k : ℕ) → fitOf o ≡ Leading k → o ≡ some k
+fit-leading none k e = cc
+fit-leading (some j) k e = cc
+
+-- an answer without one has none
+pub fit-nothing : (o : Option ℕ) → fitOf o ≡ NoFit → o ≡ none
+fit-nothing none e = refl
+fit-nothing (some j) e = cc
+
+-- leading lengths that reach every border are at most as many as the borders
+reach-within : (lead t k : ℕ) (bs : List ℕ) → reaches lead t k bs ≡ true → k ≤ length bs
+unfolding reaches
+reach-within lead t k bs e = let p = simp and-eq-true-iff at e in leb-true k (length bs) (p .0 .0 .0 .1)
+
+-- one step of the next law
+fit-by : (b : Bool) (k m l : ℕ) (o : Option ℕ) → (b ≡ true → k ≤ l) → (o ≡ some m → m ≤ l) → cond b (some k) o ≡ some m → m ≤ l
+fit-by true k m l o f g e = let h : k ≡ m = cc in omega (arith, f refl)
+fit-by false k m l o f g e = g e
+
+-- the count that fits is at most that of the borders
+pub fit-within : (j k lead t : ℕ) (bs : List ℕ) (m : ℕ) → fit j k lead t bs ≡ some m → m ≤ length bs
+unfolding fit
+fit-within zero k lead t bs m e = let z : _≡_ {A = ℕ} 0 1 = cc in absurd (omega arith)
+fit-within (suc j) k lead t bs m e =
+    fit-by (reaches lead t k bs) k m (length bs) (fit j (suc k) lead t bs) (reach-within lead t k bs) (fit-within j (suc k) lead t bs m) e
+
+-- whether a cost beats a best plan does not depend on its plan
+pub beats-any : (t : ℕ) (c : Cost) (p q : Plan) → beats t (bestBy c p) ≡ beats t (bestBy c q)
+beats-any t NoTotal p q = refl
+beats-any t (Total x) p q = refl
+
+module _ (over n lead : ℕ) (is bs : List ℕ) (c : ℕ) (best : Option Best) where
+  -- the end is not past the last border
+  pub end-early : n + over ≤ lastOr lead bs → best ≡ tryEnds 1 over n lead is bs c best
+  unfolding tryEnds
+  end-early h = rw (le-ltb (lastOr lead bs) (n + over) h)
+
+  -- the cost is not below the least
+  pub end-dear : beats (c + over) best ≡ false → best ≡ tryEnds 1 over n lead is bs c best
+  unfolding tryEnds
+  end-dear e = rw (e, and-false (ltb (lastOr lead bs) (n + over)))
+
+  module _ (h : lastOr lead bs < n + over) (e : beats (c + over) best ≡ true) where
+    -- no count of leading lengths reaches every border
+    pub end-unfit : fit 4 0 lead (n + over) bs ≡ none → best ≡ tryEnds 1 over n lead is bs c best
+    unfolding tryEnds
+    end-unfit f = rw (f, lt-ltb (lastOr lead bs) (n + over) h, e)
+
+    -- a cheaper plan
+    pub end-fit : (k : ℕ) → fit 4 0 lead (n + over) bs ≡ some k
+        → some (record { total = c + over; plan = record { shifts = is; over = over; leading = k } }) ≡ tryEnds 1 over n lead is bs c best
+    unfolding tryEnds
+    end-fit k f = rw (f, lt-ltb (lastOr lead bs) (n + over) h, e)
+
+module _ (m k n lead : ℕ) (is bs : List ℕ) (c : ℕ) (best : Option Best) (o : Option Best) where
+  -- one end, and the others after it
+  pub ends-next : (now : Option Best) → k < m → now ≡ tryEnds 1 k n lead is bs c best → tryEnds (m - k) k n lead is bs c best ≡ o
+      → tryEnds (m - (k + 1)) (k + 1) n lead is bs c now ≡ o
+  unfolding tryEnds
+  ends-next now h e f = rw (e, add-one k) (rw (left m k h, add-one k) at f)
+
+  -- no end is left
+  pub ends-end : m ≤ k → tryEnds (m - k) k n lead is bs c best ≡ o → best ≡ o
+  unfolding tryEnds
+  ends-end h f = let e : m - k ≡ 0 = omega arith in rw e at f
+
+module _ (n lead : ℕ) (ws : List WantedBorder) (is bs : List ℕ) (best : Option Best) (e : bs ≡ places ws is) where
+  -- the borders do not rise: the shifts give no plan
+  pub shifts-fall : risesFrom lead bs ≡ false → best ≡ tryShifts n lead ws is best
+  unfolding tryShifts
+  shifts-fall f = rw (← e, f)
+
+  -- the borders rise: every end is tried
+  pub shifts-rise : (c : ℕ) (now : Option Best) → risesFrom lead bs ≡ true → c ≡ prices ws is → now ≡ tryEnds 4 0 n lead is bs c best
+      → now ≡ tryShifts n lead ws is best
+  unfolding tryShifts
+  shifts-rise c now f p h = rw (← e, f, ← p) h
+
+-- without shifts nothing is tried
+try-none : (j n lead : ℕ) (ws : List WantedBorder) (best : Option Best) → tryFrom j n lead ws none best ≡ best
+unfolding tryFrom
+try-none zero n lead ws best = refl
+try-none (suc j) n lead ws best = refl
+
+module _ (m k n lead : ℕ) (ws : List WantedBorder) (is : List ℕ) (best : Option Best) (o : Option Best) where
+  -- the shifts at hand, and the turns after them
+  pub search-next : (now : Option Best) (next : List ℕ) → k < m → now ≡ tryShifts n lead ws is best → some next ≡ nextShifts ws is
+      → tryFrom (m - k) n lead ws (some is) best ≡ o → tryFrom (m - (k + 1)) n lead ws (some next) now ≡ o
+  unfolding tryFrom
+  search-next now next h e g f = rw (e, g) (rw (left m k h) at f)
+
+  -- the shifts at hand are the last
+  pub search-last : (now : Option Best) → k < m → now ≡ tryShifts n lead ws is best → none ≡ nextShifts ws is
+      → tryFrom (m - k) n lead ws (some is) best ≡ o → now ≡ o
+  unfolding tryFrom
+  search-last now h e g f = e ∙ sym (try-none (m - (k + 1)) n lead ws (tryShifts n lead ws is best)) ∙ rw g (rw (left m k h) at f)
+
+  -- no turn is left
+  pub search-end : m ≤ k → tryFrom (m - k) n lead ws (some is) best ≡ o → best ≡ o
+  unfolding tryFrom
+  search-end h f = let e : m - k ≡ 0 = omega arith in rw e at f
+
+-- zeros move no border
+zero-shifts : (n m : ℕ) (bs : List WantedBorder) → first {A = ℕ} 0 n (replicate m 0) ≡ map (λ w. 0) (first (onsetAt 0) n bs)
+zero-shifts zero m bs = refl
+zero-shifts (suc n) zero [] = ap {B = List ℕ} (λ t. 0 ∷ t) (zero-shifts n zero [])
+zero-shifts (suc n) zero (b ∷ bs) = ap {B = List ℕ} (λ t. 0 ∷ t) (zero-shifts n zero bs)
+zero-shifts (suc n) (suc m) [] = ap {B = List ℕ} (λ t. 0 ∷ t) (zero-shifts n m [])
+zero-shifts (suc n) (suc m) (b ∷ bs) = ap {B = List ℕ} (λ t. 0 ∷ t) (zero-shifts n m bs)
+
+-- the search tries the turns from the shifts that move no border
+pub search-begin : (n lead k m : ℕ) (bs : List WantedBorder)
+    → tryFrom 24 n lead (first (onsetAt 0) k bs) (some (first 0 k (replicate m 0))) none ≡ search n lead (first (onsetAt 0) k bs)
+unfolding search
+search-begin n lead k m bs = rw (zero-shifts k m bs)
+
+-- there is a further turn
+pub turn-next : (t : Turned) (k : ℕ) (o : Option (List ℕ)) → t .turn ≡ Next → turnList k t ≡ o → some (first 0 k (t .shifts)) ≡ o
+turn-next t k o e f = rw e at f
+
+-- there is none
+pub turn-last : (t : Turned) (k : ℕ) (o : Option (List ℕ)) → t .turn ≡ Last → turnList k t ≡ o → none ≡ o
+turn-last t k o e f = rw e at f
