@@ -1,4 +1,4 @@
-/* Writes two frames, reads them back and prints what was read. */
+/* Writes two frames, reads them back and prints what was read; then elects the grid of a frame with an attack and prints its energies. */
 #include "sbr_grid.h"
 
 #include <inttypes.h>
@@ -47,5 +47,30 @@ int main(void)
             putchar(freq_res[i] ? 'H' : 'L');
         printf("; next position %" PRIu64 ", border %" PRId32 "\n", position, border);
     }
+
+    /* a quiet frame with an attack in slot 10 */
+    static double samples[SBR_SAMPLES_16];
+    const uint8_t table_high[4] = {10, 12, 16, 20}, table_low[2] = {10, 20};
+    for (int slot = 0; slot < 24; slot++)
+        samples[((2 * slot + 2) * SBR_BANDS + 11) * 2] = slot == 10 ? 40.0 : 1.0;
+    uint32_t transient, elected[SBR_NUMBERS];
+    uint8_t res[SBR_MAX_ENVELOPES], leading[SBR_MAX_REL_BORD], backward[SBR_MAX_REL_BORD];
+    r = sbr_elect_grid(samples, SBR_SAMPLES_16, table_high, 4, table_low, 2, 16, 1, 16, &transient, elected, res, leading, backward);
+    if (r != 0)
+        return refused("elect", r);
+    double energies[SBR_MAX_ENERGIES];
+    uint64_t count;
+    r = sbr_estimate_envelopes(samples, SBR_SAMPLES_16, table_high, 4, table_low, 2, 16, elected[SBR_FRAME_CLASS],
+                               elected[SBR_NUM_ENV], elected[SBR_NUM_NOISE], res, SBR_MAX_ENVELOPES, elected[SBR_VAR_BORD_0],
+                               elected[SBR_VAR_BORD_1], leading, SBR_MAX_REL_BORD, elected[SBR_NUM_REL_0], backward,
+                               SBR_MAX_REL_BORD, elected[SBR_NUM_REL_1], elected[SBR_POINTER], energies, SBR_MAX_ENERGIES,
+                               &count);
+    if (r != 0)
+        return refused("energies", r);
+    printf("elected: %s, %" PRIu32 " envelopes, %s; energies", CLASSES[elected[SBR_FRAME_CLASS]], elected[SBR_NUM_ENV],
+           transient ? "an onset" : "no onset");
+    for (uint64_t i = 0; i < count; i++)
+        printf(" %g", energies[i]);
+    printf("\n");
     return 0;
 }

@@ -1,5 +1,6 @@
 /*
- * The SBR time grid for a C host: reading and writing sbr_grid() (ISO/IEC 14496-3, Table 4.69) and its time grid (4.6.18.3.3).
+ * The SBR time grid for a C host: electing a frame's grid from its samples, its envelopes' energies, reading and writing sbr_grid()
+ * (ISO/IEC 14496-3, Table 4.69) and its time grid (4.6.18.3.3).
  *
  * Link with the static library that `rt staticlib sbr_c` makes (target/staticlib/libsbr_c.a).
  *
@@ -43,7 +44,13 @@ enum {
     SBR_MAX_NOISE_BORDERS = 3
 };
 
-/* Places in the numbers that sbr_read_grid gives. */
+/* Numbers that samples need: columns of 64 bands, a pair (real, imaginary) each, two columns to a slot, from column 2 on. */
+enum { SBR_SAMPLES_16 = 6400, SBR_SAMPLES_15 = 6144, SBR_BANDS = 64 };
+
+/* Most numbers that sbr_estimate_envelopes gives. */
+enum { SBR_MAX_ENERGIES = 5 * 64 };
+
+/* Places in the numbers that sbr_read_grid and sbr_elect_grid give. */
 enum {
     SBR_FRAME_CLASS = 0,
     SBR_NUM_ENV = 1,   /* bs_num_env: how many of freq_res, and of t_e less one, are in use */
@@ -109,6 +116,39 @@ uint32_t sbr_derive_time_grid(uint64_t num_time_slots, uint32_t frame_class, uin
 uint32_t sbr_read_grid(const uint8_t *bytes, size_t bytes_len, uint64_t num_time_slots, uint64_t *position, int32_t *border,
                        uint32_t numbers[9], uint8_t freq_res[5], uint8_t rel_bord_0[4], uint8_t rel_bord_1[4],
                        uint32_t t_e[6], uint32_t t_q[3], int32_t *l_a);
+
+/*
+ * Elects the grid of a frame from its samples. Refused by 1, then 5 (variable_borders above 1), then 3, then 2.
+ *
+ * samples, samples_len    at least 6400 numbers for 16 slots, 6144 for 15; column c, band k has its real part at (c * 64 + k) * 2 and
+ *                         its imaginary part behind it; more are unread
+ * high, high_len          band borders of high resolution: two or more, rising, 0 to 64
+ * low, low_len            band borders of low resolution: rising, each one of high, with the same ends
+ * previous_border         the last border of the frame before (the slot count for a first frame); any number
+ * variable_borders        1 where borders may vary, else 0
+ * num_time_slots          15 or 16
+ * transient               1 where the frame has an onset, else 0
+ * numbers, freq_res, rel_bord_0, rel_bord_1    the record, as in sbr_read_grid
+ */
+uint32_t sbr_elect_grid(const double *samples, size_t samples_len, const uint8_t *high, size_t high_len, const uint8_t *low,
+                        size_t low_len, int32_t previous_border, uint32_t variable_borders, uint64_t num_time_slots,
+                        uint32_t *transient, uint32_t numbers[9], uint8_t freq_res[5], uint8_t rel_bord_0[4],
+                        uint8_t rel_bord_1[4]);
+
+/*
+ * The energies of a record's envelopes over the samples: a row for each envelope, first to last, with a mean for each band of the
+ * table of its resolution, lowest first; the rows one after another. Refused by 1, then 5 (a record that can't be formed), 3, 2, 6, 4.
+ *
+ * out, out_len    where the rows go; numbers past them are kept
+ * count           how many numbers the rows hold
+ * The others are as in sbr_elect_grid, sbr_derive_time_grid and sbr_write_grid.
+ */
+uint32_t sbr_estimate_envelopes(const double *samples, size_t samples_len, const uint8_t *high, size_t high_len,
+                                const uint8_t *low, size_t low_len, uint64_t num_time_slots, uint32_t frame_class,
+                                uint64_t num_env, uint64_t num_noise, const uint8_t *freq_res, size_t freq_res_len,
+                                uint32_t var_bord_0, uint32_t var_bord_1, const uint8_t *rel_bord_0, size_t rel_bord_0_len,
+                                uint64_t num_rel_0, const uint8_t *rel_bord_1, size_t rel_bord_1_len, uint64_t num_rel_1,
+                                uint32_t pointer, double *out, size_t out_len, uint64_t *count);
 
 #ifdef __cplusplus
 }

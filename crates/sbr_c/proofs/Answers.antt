@@ -4,6 +4,7 @@ use mathlib.Core.List.{List}
 use Prim.Native.Nat.{ℕ}
 use native.Mathlib.Omega.{arith}
 use lib.IntN.{ℤ}
+use lib.Ieee.{Float}
 use Rattle.sbr_grid.specs.declared.Refusal.{Refusal}
 use Rattle.sbr_grid.specs.declared.Answer.{Answer}
 use Rattle.sbr_grid.specs.declared.Answer.the-variants.{Given, Refused}
@@ -13,7 +14,10 @@ use Rattle.sbr_time_grid.specs.TimeGrid.{Times, derivedOf}
 use Rattle.sbr_writer.specs.declared.Written.{Written}
 use Rattle.sbr_writer.specs.declared.Written.the-variants.{To, Refused as NotWritten}
 use Rattle.sbr_writer.specs.Write.{Wrote, writtenOf, bytesAfter}
-use Rattle.sbr_c.specs.Given.{Gives, writeOut, timeOut}
+use Rattle.sbr_envelopes.specs.declared.Estimated.{Estimated}
+use Rattle.sbr_envelopes.specs.declared.Estimated.the-variants.{Count, Refused as NotEstimated}
+use Rattle.sbr_envelopes.specs.Envelopes.{estimatedOf, numbersAfter}
+use Rattle.sbr_c.specs.Given.{Gives, writeOut, timeOut, energyOut}
 
 -- an answer, and what stands in the outputs is that answer
 pub record Out {A B : Type 0} (o : Outcome A) (f : A → B) (after : B) : Type 0 where
@@ -63,3 +67,13 @@ has-written (refused w) s l m q e f h = absurd (let z : _≡_ {A = ℕ} 0 1 = cc
 pub not-written : (o : Outcome Wrote) (s : Written) (l m : List ℕ) (w : Refusal) → s ≡ writtenOf o → m ≡ bytesAfter l o → s ≡ NotWritten w → (o ≡ refused w) × (m ≡ l)
 not-written (answered a) s l m w e f h = absurd (let z : _≡_ {A = ℕ} 0 1 = cc in omega arith)
 not-written (refused a) s l m w e f h = (cc, f)
+
+-- the energies were estimated
+pub has-estimated : (o : Outcome (List Float)) (s : Estimated) (l m : List Float) (k : ℕ) → s ≡ estimatedOf o → m ≡ numbersAfter l o → s ≡ Count k → Out o (energyOut l) (m, k)
+has-estimated (answered es) s l m k e f h = record { value = es; is = refl; out = cc }
+has-estimated (refused w) s l m k e f h = absurd (let z : _≡_ {A = ℕ} 0 1 = cc in omega arith)
+
+-- they were refused, and the numbers are as they were
+pub not-estimated : (o : Outcome (List Float)) (s : Estimated) (l m : List Float) (w : Refusal) → s ≡ estimatedOf o → m ≡ numbersAfter l o → s ≡ NotEstimated w → (o ≡ refused w) × (m ≡ l)
+not-estimated (answered es) s l m w e f h = absurd (let z : _≡_ {A = ℕ} 0 1 = cc in omega arith)
+not-estimated (refused a) s l m w e f h = (cc, f)

@@ -8,9 +8,10 @@ use borrow.Author.Tests.{leb-true, le-leb}
 use lib.Dec.{leb}
 use lib.ListN.{length, getD, drop, List·getD-eq-default}
 use lib.Seq.{drop-nil}
+use lib.Ieee.{Float}
 use Rattle.bits.specs.Bits.{bitN}
 use Rattle.sbr_grid.specs.declared.SbrGrid.{SbrGrid}
-use Rattle.sbr_grid.specs.declared.Refusal.the-variants.{SlotCount, Unwritable, TimeGrid}
+use Rattle.sbr_grid.specs.declared.Refusal.the-variants.{SlotCount, Samples, Tables, Unwritable, TimeGrid}
 use Rattle.sbr_grid.specs.Refusals.{refused}
 use Rattle.sbr_grid.specs.Grid.{first, viewOf, recordOf, Grid, numEnv}
 use Rattle.sbr_grid.proofs.Laws.{length-first, getD-first, view-record, lengths}
@@ -18,6 +19,9 @@ use Rattle.sbr_time_grid.specs.TimeGrid.{slotCount, countsFit, timeGrid}
 use Rattle.sbr_time_grid.proofs.Laws.{counts}
 use Rattle.sbr_writer.specs.Write.{fieldsFit, writeGrid}
 use Rattle.sbr_writer.proofs.Facts.{fields-told}
+use Rattle.sbr_qmf.specs.Qmf.{columns}
+use Rattle.sbr_bands.specs.Tables.{tablesFit}
+use Rattle.sbr_envelopes.specs.Envelopes.{samplesNeeded, rowsOf, energies}
 use Rattle.sbr_c.specs.declared.form.Handed.{Handed}
 use Rattle.sbr_c.specs.Handed.{formed}
 use Rattle.sbr_c.specs.Given.{numbersOf, recordOut}
@@ -113,10 +117,32 @@ time-else : (n : ℕ) (g : Grid) → countsFit g ≡ false → timeGrid n g ≡ 
 unfolding timeGrid
 time-else n g e = rw e
 
+-- the lists of one whose counts fit are within a record
+counted : (g : Grid) → countsFit g ≡ true → Within g
+counted g e = let t = counts g e in record { env = t .few; rel0 = t .few0; rel1 = t .few1 }
+
 -- a grid and its record have the same time grid
 pub time-same : (n : ℕ) (g : Grid) → timeGrid n (viewOf (recordOf g)) ≡ timeGrid n g
-time-same n g =
-    same (timeGrid n) _ countsFit (λ g e. let t = counts g e in record { env = t .few; rel0 = t .few0; rel1 = t .few1 }) (time-else n) g
+time-same n g = same (timeGrid n) _ countsFit counted (time-else n) g
+
+-- a test that was passed is passed again
+again : {A B : Type 0} (f : A → B) (p q : A) (r : B) (t : Bool) → cond t (f (cond t p q)) r ≡ cond t (f p) r
+again f p q r true = refl
+again f p q r false = refl
+
+-- a grid whose counts don't fit has no energies: it is refused by the tests before the time grid, or has none
+energy-else : (n : ℕ) (high low : List ℕ) (x : List Float) (room : ℕ) (g : Grid) → countsFit g ≡ false
+    → energies n high low x g room
+    ≡ cond (slotCount n) (cond (tablesFit high low) (cond (leb (samplesNeeded n) (length x)) (refused TimeGrid) (refused Samples)) (refused Tables)) (refused SlotCount)
+unfolding energies
+energy-else n high low x room g e =
+    rw (time-else n g e)
+    (again (λ o. cond (tablesFit high low) (cond (leb (samplesNeeded n) (length x)) (rowsOf (columns x) high low g room o) (refused Samples)) (refused Tables))
+    (refused TimeGrid) (refused SlotCount) (refused SlotCount) (slotCount n))
+
+-- a grid and its record have the same energies
+pub energy-same : (n : ℕ) (high low : List ℕ) (x : List Float) (room : ℕ) (g : Grid) → energies n high low x (viewOf (recordOf g)) room ≡ energies n high low x g room
+energy-same n high low x room g = same (λ g. energies n high low x g room) _ countsFit counted (energy-else n high low x room) g
 
 -- padding what is padded changes nothing
 first-again : {A : Type 0} (d : A) (n : ℕ) (xs : List A) → first d n (first d n xs) ≡ first d n xs

@@ -1,3 +1,4 @@
 pub mod Laws
 pub mod Answers
 pub mod Readings
+pub mod Elections

@@ -1,11 +1,7 @@
 -- The record that a program forms of what C hands in, and the counts of one that it reads.
-use mathlib.Core.Bool.{Bool}
-use mathlib.Core.List.{List}
 use Prim.Native.Nat.{_≤_}
 use Rattle.sbr_grid.specs.declared.SbrGrid.{SbrGrid}
-use Rattle.sbr_grid.specs.Grid.{recordOf}
 use Rattle.sbr_c.specs.declared.form.Handed.{Handed}
-use Rattle.sbr_c.specs.Handed.{gridFrom}
 
 -- border bytes and pointer fit a byte
 pub record Bytes (h : Handed) : Type 0 where

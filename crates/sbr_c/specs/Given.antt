@@ -1,16 +1,18 @@
 -- What C is given: 0, or the number of a refusal; and the values of an answer in single numbers and fixed arrays.
 use mathlib.Core.Path.{_≡_}
 use mathlib.Core.Bool.{false}
-use mathlib.Core.List.{List, [], _∷_, map}
+use mathlib.Core.List.{List, [], _∷_, _++_, map}
 use Prim.Native.Nat.{ℕ}
 use lib.IntN.{ℤ, pos}
-use lib.ListN.{length}
+use lib.ListN.{length, drop}
+use lib.Ieee.{Float}
 use Rattle.bits.specs.Bits.{bitN}
 use Rattle.sbr_grid.specs.Refusals.{Outcome, answered, refused, numberOf, valueOr}
 use Rattle.sbr_grid.specs.Grid.{classCode, first, Grid}
 use Rattle.sbr_time_grid.specs.TimeGrid.{Times}
 use Rattle.sbr_writer.specs.Write.{Wrote}
 use Rattle.sbr_reader.specs.Read.{Frame}
+use Rattle.sbr_encoder.specs.Election.{Elected}
 
 abbrev pub codeOf : {A : Type 0} → Outcome A → ℕ
 codeOf (answered a) = 0
@@ -42,3 +44,11 @@ timeOut t = (first 0 6 (t .tE), first 0 3 (t .tQ), t .lA)
 -- a frame: the position after it, its last border, its record and its time grid
 abbrev pub frameOut : Frame → ℕ × ℤ × (List ℕ × List ℕ × List ℕ × List ℕ) × (List ℕ × List ℕ × ℤ)
 frameOut f = (f .position, pos (f .border), recordOut (f .grid), timeOut (f .time))
+
+-- an election: whether the frame has an onset, and its record
+abbrev pub electionOut : Elected → ℕ × (List ℕ × List ℕ × List ℕ × List ℕ)
+electionOut e = (bitN (e .transient), recordOut (e .grid))
+
+-- energies: the numbers after, those past the rows as they were, and how many the rows hold
+abbrev pub energyOut : List Float → List Float → List Float × ℕ
+energyOut out es = (es ++ drop (length es) out, length es)
