@@ -32,13 +32,7 @@ fn refusal(why: Refusal, pos: usize, carried: Carried) -> Reading
     Reading {
         answer: Answer::Refused(why),
         grid: SbrGrid::empty(),
-        time: TimeGrid {
-            num_env: 0,
-            t_e: [0u32; TimeGrid::MAX_BORDERS],
-            num_noise: 0,
-            t_q: [0u32; TimeGrid::MAX_NOISE_BORDERS],
-            l_a: 0,
-        },
+        time: TimeGrid::empty(),
         position: pos,
         carried,
     }

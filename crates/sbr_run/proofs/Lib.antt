@@ -2,3 +2,5 @@ pub mod OneFrame
 pub mod Transmit
 pub mod Receive
 pub mod Term3
+pub mod TurnWays
+pub mod Sampled

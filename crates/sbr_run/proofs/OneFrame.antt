@@ -42,9 +42,9 @@ pub record Calls (t : Turn) (a : Turned) : Type 0 where
   pub times : timeGrid (t .timeSlots) (a .sent .grid) ≡ answered (a .sent .time)
   pub writes : writeGrid (t .bytes) (t .position) (a .sent .grid) ≡ answered (a .wrote)
 
-last-call : (g : Grid) (tm : Times) (w : Wrote) (a : Turned) → answered (record { sent = record { grid = g; time = tm }; wrote = w }) ≡ answered a
-    → _≡_ {A = Turned} (record { sent = record { grid = g; time = tm }; wrote = w }) a
-last-call g tm w a e = cc
+last-call : (g : Grid) (tm : Times) (b : Bool) (w : Wrote) (a : Turned) → answered (record { sent = record { grid = g; time = tm }; transient = b; wrote = w }) ≡ answered a
+    → _≡_ {A = Turned} (record { sent = record { grid = g; time = tm }; transient = b; wrote = w }) a
+last-call g tm b w a e = cc
 
 -- the three calls of a turn that answers
 pub calls : (t : Turn) (a : Turned) → turn t ≡ answered a → Calls t a
@@ -53,7 +53,7 @@ calls t a e =
     let p = next-answered {A = Elected} _ _ a e in
     let q = next-answered {A = Times} _ _ a (p .2) in
     let r = next-answered {A = Wrote} _ _ a (q .2) in
-    let l = last-call (p .0 .grid) (q .0) (r .0) a (r .2) in
+    let l = last-call (p .0 .grid) (q .0) (p .0 .transient) (r .0) a (r .2) in
     let g : p .0 .grid ≡ a .sent .grid = ap (λ (x : Turned). x .sent .grid) l in
     record {
       elected = p .0;

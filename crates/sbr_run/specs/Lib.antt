@@ -1,3 +1,5 @@
 pub mod Run
 pub mod Readings
 pub mod Claim
+pub mod Forms
+pub mod Sample

@@ -36,6 +36,7 @@ pub record Sent : Type 0 where
 -- what a turn comes to where all three calls answer
 pub record Turned : Type 0 where
   pub sent : Sent
+  pub transient : Bool
   pub wrote : Wrote
 
 -- the next call, where the one before answered
@@ -49,7 +50,7 @@ turn t =
     next (elect (t .slots) (t .high) (t .low) (t .samples) (t .previous) (t .variable)) (λ e.
     next (timeGrid (t .timeSlots) (e .grid)) (λ tm.
     next (writeGrid (t .bytes) (t .position) (e .grid)) (λ w.
-    answered (record { sent = record { grid = e .grid; time = tm }; wrote = w }))))
+    answered (record { sent = record { grid = e .grid; time = tm }; transient = e .transient; wrote = w }))))
 
 -- ---- lists of turns
 

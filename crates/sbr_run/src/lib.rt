@@ -1,1 +1,131 @@
-// Runs of a transmitter and readings of a receiver: the claim about whole lists is in specs/Claim.antt.
+// A transmitter's turn and a receiver's reading, each with what it carries on. The claim about whole lists of them is in specs/Claim.antt.
+use sbr_grid::Answer;
+use sbr_grid::Refusal;
+use sbr_grid::SbrGrid;
+use sbr_reader::Carried;
+use sbr_time_grid::TimeGrid;
+use sbr_writer::Written;
+ghost use mathlib.Core.Path.{_≡_};
+ghost use Prim.Native.Nat.{_≤_};
+ghost use lib.IntN.{pos};
+ghost use lib.ListN.{getD};
+ghost use Rattle.sbr_grid.specs.Refusals.{refused};
+ghost use Rattle.sbr_run.specs.Run.{turn};
+ghost use Rattle.sbr_run.specs.Readings.{reading};
+ghost use Rattle.sbr_run.specs.Forms.{turnFrom, sendingOf, bytesLeft, readingFrom, receivingOf};
+
+// What is carried from frame to frame: the last border, and the bit position.
+pub struct Place {
+    pub carried: Carried,
+    pub position: usize,
+}
+
+pub struct Sending {
+    pub answer: Answer,
+    pub grid: SbrGrid,
+    pub time: TimeGrid,
+    // Whether the frame has an onset.
+    pub transient: bool,
+    pub place: Place,
+}
+
+pub struct Receiving {
+    pub answer: Answer,
+    pub grid: SbrGrid,
+    pub time: TimeGrid,
+    pub place: Place,
+}
+
+fn refusal(why: Refusal, place: Place) -> Sending
+    ensures { λ r. ⌜ r ≡ sendingOf place (refused why) ⌝ }
+{
+    Sending {
+        answer: Answer::Refused(why),
+        grid: SbrGrid::empty(),
+        time: TimeGrid::empty(),
+        transient: false,
+        place,
+    }
+}
+
+// The last border of a time grid.
+fn last_border(time: TimeGrid) -> i32
+    requires { ⌜ (time .«num_env» ≤ 5) × (getD (time .«t_e») (time .«num_env») 0 ≤ 255) ⌝ }
+    ensures { λ r. ⌜ r ≡ pos (getD (time .«t_e») (time .«num_env») 0) ⌝ }
+{
+    let t_e = time.t_e;
+    let last = time.num_env;
+    t_e[last] as i32
+}
+
+// A transmitter's turn: election from the carried border, time grid of the record, its writing at the position. The call that refuses is
+// the last, and nothing moves then.
+pub fn send_frame(
+    x: &[f64],
+    high: &[u8],
+    low: &[u8],
+    variable_borders: bool,
+    num_time_slots: usize,
+    bytes: &mut [u8],
+    place: Place,
+) -> Sending
+    ensures { λ r. ⌜ r ≡ sendingOf place (turn (turnFrom «num_time_slots» (now (high .entry)) (now (low .entry)) (now (x .entry)) «variable_borders» (now (bytes .entry)) place)) ⌝ }
+    ensures { λ r. ⌜ now (bytes .exit) ≡ bytesLeft (now (bytes .entry)) (turn (turnFrom «num_time_slots» (now (high .entry)) (now (low .entry)) (now (x .entry)) «variable_borders» (now (bytes .entry)) place)) ⌝ }
+{
+    let carried = place.carried;
+    let elected = sbr_encoder::elect_grid(
+        x,
+        high,
+        low,
+        carried.border,
+        variable_borders,
+        num_time_slots,
+    );
+    let answer = elected.answer;
+    if let Answer::Refused(why) = answer {
+        return refusal(why, place);
+    }
+    let grid = elected.grid;
+    let derived = sbr_time_grid::derive_time_grid(grid, num_time_slots);
+    let timed = derived.answer;
+    if let Answer::Refused(why) = timed {
+        return refusal(why, place);
+    }
+    let time = derived.time;
+    match sbr_writer::write_grid(bytes, place.position, grid) {
+        Written::To(position) => Sending {
+            answer: Answer::Given,
+            grid,
+            time,
+            transient: elected.transient,
+            place: Place {
+                carried: Carried {
+                    border: last_border(time),
+                },
+                position,
+            },
+        },
+        Written::Refused(why) => refusal(why, place),
+    }
+}
+
+// A receiver's reading of the next frame; a refusal moves nothing.
+pub fn receive_frame(bytes: &[u8], num_time_slots: usize, place: Place) -> Receiving
+    ensures { λ r. ⌜ r ≡ receivingOf place (reading (readingFrom «num_time_slots» (now (bytes .entry)) place)) ⌝ }
+{
+    let carried = place.carried;
+    let read = sbr_reader::read_grid(bytes, place.position, num_time_slots, carried);
+    let answer = read.answer;
+    let grid = read.grid;
+    let time = read.time;
+    let next = read.carried;
+    Receiving {
+        answer,
+        grid,
+        time,
+        place: Place {
+            carried: next,
+            position: read.position,
+        },
+    }
+}

@@ -31,7 +31,7 @@ impl TimeGrid {
     pub const MAX_NOISE_BORDERS: usize = 3;
 
     // The time grid beside a refusal.
-    fn empty() -> Self
+    pub fn empty() -> Self
         ensures { λ r. ⌜ r ≡ emptyTime ⌝ }
     {
         TimeGrid {

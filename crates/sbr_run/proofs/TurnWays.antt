@@ -1,0 +1,139 @@
+-- The ways out of a turn, one law for each, and what the program hands out for a frame that is sent.
+use mathlib.Core.Path.{_≡_, refl, sym, ap, _∙_}
+use mathlib.Core.Bool.{Bool}
+use Prim.Native.Nat.{ℕ, _+_, _-_, _≤_, _<_}
+use native.Mathlib.Omega.{arith}
+use lib.IntN.{ℤ, pos}
+use lib.ListN.{length, getD}
+use Rattle.sbr_grid.specs.declared.Refusal.{Refusal}
+use Rattle.sbr_grid.specs.declared.Answer.the-variants.{Given}
+use Rattle.sbr_grid.specs.declared.SbrGrid.{SbrGrid}
+use Rattle.sbr_grid.specs.Refusals.{Outcome, answered, refused}
+use Rattle.sbr_grid.specs.Grid.{Grid, numEnv, viewOf, recordOf}
+use Rattle.sbr_grid.proofs.Laws.{getD-first, view-record}
+use Rattle.sbr_time_grid.specs.declared.TimeGrid.{TimeGrid}
+use Rattle.sbr_time_grid.specs.declared.Derived.{Derived}
+use Rattle.sbr_time_grid.specs.TimeGrid.{Times, timeGrid, timeRecord, derivedOf}
+use Rattle.sbr_time_grid.proofs.Answers.{slots-few}
+use Rattle.sbr_time_grid.proofs.Ends.{time-ends, time-passes}
+use Rattle.sbr_writer.specs.declared.Written.the-variants.{To, Refused as NotWritten}
+use Rattle.sbr_writer.specs.Write.{Wrote, writeGrid, writtenOf}
+use Rattle.sbr_writer.proofs.Facts.{both, fields-told}
+use Rattle.sbr_reader.specs.declared.Reading.{Reading}
+use Rattle.sbr_reader.specs.Read.{Frame, readingOf}
+use Rattle.sbr_reader.proofs.ReadLaws.{given-is}
+use Rattle.sbr_encoder.specs.declared.Election.{Election}
+use Rattle.sbr_encoder.specs.Election.{Elected, elect, electionOf}
+use Rattle.sbr_encoder.proofs.Elections.{every-election}
+use Rattle.sbr_run.specs.declared.Place.{Place}
+use Rattle.sbr_run.specs.declared.Sending.{Sending}
+use Rattle.sbr_run.specs.declared.Receiving.{Receiving}
+use Rattle.sbr_run.specs.Run.{Turn, Turned, turn, lastBorder}
+use Rattle.sbr_run.specs.Forms.{sendingOf, receivingOf}
+
+-- ---- the ways out
+
+-- what the election of a turn comes to
+abbrev pub electing : Turn → Outcome Elected
+electing t = elect (t .slots) (t .high) (t .low) (t .samples) (t .previous) (t .variable)
+
+-- what a turn comes to, from what its calls answer
+abbrev pub turned : Elected → Times → Wrote → Turned
+turned e tm w = record { sent = record { grid = e .grid; time = tm }; transient = e .transient; wrote = w }
+
+module _ (t : Turn) where
+  -- the election refuses
+  pub elect-refuses : (w : Refusal) → electing t ≡ refused w → turn t ≡ refused w
+  unfolding turn
+  elect-refuses w a = rw a
+
+  module _ (e : Elected) (a : electing t ≡ answered e) where
+    -- the time grid refuses the record
+    pub time-refuses : (w : Refusal) → timeGrid (t .timeSlots) (e .grid) ≡ refused w → turn t ≡ refused w
+    unfolding turn
+    time-refuses w b = rw (a, b)
+
+    module _ (tm : Times) (b : timeGrid (t .timeSlots) (e .grid) ≡ answered tm) where
+      -- the writer refuses it
+      pub write-refuses : (w : Refusal) → writeGrid (t .bytes) (t .position) (e .grid) ≡ refused w → turn t ≡ refused w
+      unfolding turn
+      write-refuses w d = rw (a, b, d)
+
+      -- the frame is sent
+      pub sends : (w : Wrote) → writeGrid (t .bytes) (t .position) (e .grid) ≡ answered w → turn t ≡ answered (turned e tm w)
+      unfolding turn
+      sends w d = rw (a, b, d)
+
+-- ---- what the calls hand out where they answer
+
+-- a record whose view is the elected grid
+pub record Chosen (t : Turn) (r : Election) : Type 0 where
+  pub elected : Elected
+  pub is : electing t ≡ answered elected
+  pub whole : r ≡ electionOf (answered elected)
+  pub view : viewOf (r .grid) ≡ elected .grid
+
+pub chosen : (t : Turn) (r : Election) → r ≡ electionOf (electing t) → r .answer ≡ Given → Chosen t r
+chosen t r e g =
+    let o = given-is (electing t) (ap (λ (x : Election). x .answer) (sym e) ∙ g) in
+    let w = e ∙ ap electionOf (o .1) in
+    let h = o .0 .grid in
+    let f = fields-told h (both _ _ (every-election _ _ _ _ _ _ (o .0) (o .1) .fits) .0) in
+    record {
+      elected = o .0;
+      is = o .1;
+      whole = w;
+      view = ap (λ (x : Election). viewOf (x .grid)) w ∙ view-record h (f .most) (f .rel0) (f .rel1);
+    }
+
+-- the last border of a time grid t, in its record r
+pub record Last (t : Times) (r : TimeGrid) : Type 0 where
+  pub few : r .«num_env» ≤ 5
+  pub is : getD (r .«t_e») (r .«num_env») 0 ≡ lastBorder t
+  pub small : lastBorder t ≤ 255
+
+last-of : (n : ℕ) (g : Grid) (t : Times) (r : TimeGrid) → timeGrid n g ≡ answered t → r ≡ timeRecord t → Last t r
+last-of n g t r e w =
+    let m = time-ends n g t e in
+    let s = slots-few n (time-passes n g t e .slots) in
+    let l : lastBorder t ≡ getD (t .tE) (numEnv g) 0 = ap (λ (i : ℕ). getD (t .tE) i 0) (omega arith) in
+    rw w (record { few = omega arith; is = getD-first 0 6 (length (t .tE) - 1) (t .tE) (omega arith); small = omega arith })
+
+-- the time grid of a record
+pub record Timed (n : ℕ) (g : Grid) (d : Derived) : Type 0 where
+  pub time : Times
+  pub is : timeGrid n g ≡ answered time
+  pub whole : d .time ≡ timeRecord time
+  pub last : Last time (d .time)
+
+pub timed : (n : ℕ) (g : Grid) (d : Derived) → d ≡ derivedOf (timeGrid n g) → d .answer ≡ Given → Timed n g d
+timed n g d e h =
+    let o = given-is (timeGrid n g) (ap (λ (x : Derived). x .answer) (sym e) ∙ h) in
+    let w : d .time ≡ timeRecord (o .0) = ap (λ (x : Derived). x .time) (e ∙ ap derivedOf (o .1)) in
+    record { time = o .0; is = o .1; whole = w; last = last-of n g (o .0) (d .time) (o .1) w }
+
+-- a write that hands out a position
+pub wrote-to : (o : Outcome Wrote) (q : ℕ) → writtenOf o ≡ To q → (w : Wrote) × (o ≡ answered w) × (q ≡ w .position)
+wrote-to (answered w) q e = (w, refl, cc)
+wrote-to (refused r) q e = let z : _≡_ {A = ℕ} 0 1 = cc in absurd (omega arith)
+
+-- a write that hands out a refusal
+pub wrote-not : (o : Outcome Wrote) (r : Refusal) → writtenOf o ≡ NotWritten r → o ≡ refused r
+wrote-not (answered w) r e = let z : _≡_ {A = ℕ} 0 1 = cc in absurd (omega arith)
+wrote-not (refused w) r e = cc
+
+-- ---- what the program hands out
+
+-- for a frame that is sent
+pub sent-is : (p : Place) (a : Turned) (g : SbrGrid) (t : TimeGrid) (b : Bool) (z : ℤ) (q : ℕ)
+    → g ≡ recordOf (a .sent .grid) → t ≡ timeRecord (a .sent .time) → b ≡ a .transient → z ≡ pos (lastBorder (a .sent .time)) → q ≡ a .wrote .position
+    → _≡_ {A = Sending} (record { answer = Given; grid = g; time = t; transient = b; place = record { carried = record { border = z }; position = q } }) (sendingOf p (answered a))
+sent-is p a g t b z q c d e f h = rw (c, d, e, f, h)
+
+-- for a reading
+abbrev pub received : Reading → Receiving
+received r = record { answer = r .answer; grid = r .grid; time = r .time; place = record { carried = r .carried; position = r .position } }
+
+pub received-is : (p : Place) (o : Outcome Frame) → received (readingOf (p .position) (p .carried) o) ≡ receivingOf p o
+received-is p (answered f) = refl
+received-is p (refused w) = refl

@@ -1,0 +1,110 @@
+-- A run of five turns, two of them refused, and its readings, computed: the claim is about something. Proved in proofs/Sampled.antt.
+use mathlib.Core.Path.{_≡_}
+use mathlib.Core.Bool.{Bool, true, false}
+use mathlib.Core.List.{List, [], _∷_, _++_, map}
+use Prim.Native.Nat.{ℕ, zero, suc, _+_, _-_, _*_}
+use lib.IntN.{pos, negsuc}
+use lib.ListN.{replicate}
+use lib.Ieee.{Float, binary64, ofBits}
+use Rattle.sbr_grid.specs.declared.FrameClass.the-variants.{FixFix, FixVar, VarFix}
+use Rattle.sbr_energy.specs.Floats.{zero64}
+use Rattle.sbr_run.specs.Run.{Turn, Terms, State, after, sent, Run, Frame, frameOf}
+use Rattle.sbr_run.specs.Readings.{Reading, listened, read, Readings}
+
+-- ---- samples
+
+-- 16.0
+abbrev pub sixteen : Float
+sixteen = ofBits binary64 0x4030_0000_0000_0000
+
+-- a column of 64 bands that is silent, and one that is loud in band 10
+abbrev pub quiet : List Float
+quiet = replicate 128 zero64
+
+abbrev pub loud : List Float
+loud = replicate 20 zero64 ++ (sixteen ∷ sixteen ∷ replicate 106 zero64)
+
+-- n of a column
+abbrev pub columnsOf : ℕ → List Float → List Float
+columnsOf zero c = []
+columnsOf (suc n) c = c ++ columnsOf n c
+
+-- 50 columns, loud from slot s on
+abbrev pub loudFrom : ℕ → List Float
+loudFrom s = columnsOf (2 * s + 2) quiet ++ columnsOf (48 - 2 * s) loud
+
+-- ---- turns
+
+abbrev pub terms : Terms
+terms = record { slots = 16; high = 10 ∷ 11 ∷ 12 ∷ []; low = 10 ∷ 12 ∷ [] }
+
+abbrev pub turnAt : ℕ → ℕ → State → Turn
+turnAt n s c = record {
+  slots = n;
+  high = terms .high;
+  low = terms .low;
+  samples = loudFrom s;
+  previous = pos (c .border);
+  variable = true;
+  timeSlots = n;
+  bytes = c .bytes;
+  position = c .position;
+}
+
+-- what is carried: at the start, after each frame and at the end
+abbrev pub start : State
+start = record { border = 16; position = 3; bytes = 0 ∷ 0 ∷ 0 ∷ 0 ∷ 0 ∷ [] }
+
+abbrev pub afterOne : State
+afterOne = record { border = 16; position = 8; bytes = 1 ∷ 0 ∷ 0 ∷ 0 ∷ 0 ∷ [] }
+
+abbrev pub afterTwo : State
+afterTwo = record { border = 18; position = 23; bytes = 1 ∷ 104 ∷ 48 ∷ 0 ∷ 0 ∷ [] }
+
+abbrev pub end : State
+end = record { border = 16; position = 38; bytes = 1 ∷ 104 ∷ 49 ∷ 86 ∷ 100 ∷ [] }
+
+-- silence; refused, by the slot count 17; loud from slot 15 on; loud from slot 10 on; silence, refused since it has no room
+abbrev pub turns : List Turn
+turns = turnAt 16 24 start ∷ turnAt 17 24 afterOne ∷ turnAt 16 15 afterOne ∷ turnAt 16 10 afterTwo ∷ turnAt 16 24 end ∷ []
+
+-- the frames that are sent
+abbrev pub frames : List Frame
+frames =
+    record { class = FixFix; borders = 0 ∷ 16 ∷ []; noise = 0 ∷ 16 ∷ []; mark = negsuc 0; resolutions = true ∷ []; rows = 2 ∷ [] }
+    ∷ record {
+      class = FixVar;
+      borders = 0 ∷ 14 ∷ 16 ∷ 18 ∷ [];
+      noise = 0 ∷ 14 ∷ 18 ∷ [];
+      mark = pos 1;
+      resolutions = false ∷ false ∷ false ∷ [];
+      rows = 1 ∷ 1 ∷ 1 ∷ [];
+    }
+    ∷ record {
+      class = VarFix;
+      borders = 2 ∷ 10 ∷ 12 ∷ 16 ∷ [];
+      noise = 2 ∷ 12 ∷ 16 ∷ [];
+      mark = pos 2;
+      resolutions = false ∷ false ∷ true ∷ [];
+      rows = 1 ∷ 1 ∷ 2 ∷ [];
+    }
+    ∷ []
+
+-- ---- readings
+
+abbrev pub readingAt : ℕ → ℕ → ℕ → Reading
+readingAt n b p = record { bytes = end .bytes; position = p; slots = n; border = pos b }
+
+-- the first frame; refused, by the slot count 17; the second; refused, since it does not meet the border 16; the third; refused, since the bits end
+abbrev pub readings : List Reading
+readings = readingAt 16 16 3 ∷ readingAt 17 16 8 ∷ readingAt 16 16 8 ∷ readingAt 16 16 23 ∷ readingAt 16 18 23 ∷ readingAt 16 16 38 ∷ []
+
+-- ---- the sample
+
+pub record Sample : Type 0 where
+  pub runs : Run terms start turns
+  pub sends : map (frameOf terms) (sent turns) ≡ frames
+  pub ends : after start turns ≡ end
+  pub listens : Readings 16 (end .bytes) (record { border = 16; position = 3 }) readings
+  pub reads : map (frameOf terms) (read readings) ≡ frames
+  pub hears : listened (record { border = 16; position = 3 }) readings ≡ record { border = end .border; position = end .position }
