@@ -1,0 +1,2 @@
+pub mod Nans
+pub mod Prefix
