@@ -134,7 +134,7 @@ returns-3 c =
     let r = sends (turn-at (told d .before .before)) (g .elected) (g .is) (m .time) (m .is) (o .0) (o .1) in
     rw r (
       sent-is (start (told d .before .before) .args .place) (turned (g .elected) (m .time) (o .0)) _ _ _ _ _ (ap (λ (x : Election). x .grid) (g .whole)) (m .whole) (ap (λ (x : Election). x .transient) (g .whole))
-      (ap (λ (z : ℤ). toZ w32 (ofZ w32 z)) (c .last-border .ensures) ∙ toZ-pos w32 _ (omega (arith, m .last .is, m .last .small)) ∙ ap pos (m .last .is)) (o .2),
+          (ap (λ (z : ℤ). toZ w32 (ofZ w32 z)) (c .last-border .ensures) ∙ toZ-pos w32 _ (omega (arith, m .last .is, m .last .small)) ∙ ap pos (m .last .is)) (o .2),
       written w .1 ∙ ap (bytesAfter _) (o .1),
     )
 
