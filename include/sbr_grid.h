@@ -150,6 +150,18 @@ uint32_t sbr_estimate_envelopes(const double *samples, size_t samples_len, const
                                 uint64_t num_rel_0, const uint8_t *rel_bord_1, size_t rel_bord_1_len, uint64_t num_rel_1,
                                 uint32_t pointer, double *out, size_t out_len, uint64_t *count);
 
+/*
+ * A transmitter's turn: elects the grid of a frame from its samples, takes its time grid, writes it at the bit position, and moves position
+ * and border on. Refused by 1, then 5 (variable_borders above 1), 3, 2, 4; nothing moves then. Read such frames with sbr_read_grid.
+ *
+ * border    the last border of the frame before (the slot count for a first frame); the last border of this frame after it
+ * The others are as in sbr_elect_grid, sbr_write_grid and sbr_derive_time_grid.
+ */
+uint32_t sbr_send_frame(const double *samples, size_t samples_len, const uint8_t *high, size_t high_len, const uint8_t *low,
+                        size_t low_len, uint32_t variable_borders, uint64_t num_time_slots, uint8_t *bytes, size_t bytes_len,
+                        uint64_t *position, int32_t *border, uint32_t *transient, uint32_t numbers[9], uint8_t freq_res[5],
+                        uint8_t rel_bord_0[4], uint8_t rel_bord_1[4], uint32_t t_e[6], uint32_t t_q[3], int32_t *l_a);
+
 #ifdef __cplusplus
 }
 #endif

@@ -30,6 +30,10 @@ module _ {A B : Type 0} (o : Outcome A) (f : A → B) (before : B) where
   pub gives-refused : (e : Refusal) (r : ℕ) → o ≡ refused e → r ≡ numberOf e → Gives o f before r before
   gives-refused e r h k = rw h (record { code = k; outputs = refl })
 
+  -- so does one whose outputs are told to be as they were
+  pub gives-kept : (e : Refusal) (r : ℕ) (after : B) → o ≡ refused e → r ≡ numberOf e → after ≡ before → Gives o f before r after
+  gives-kept e r after h k s = rw s (gives-refused e r h k)
+
   -- an answer gives 0 and its outputs
   pub gives-answered : (after : B) → Out o f after → Gives o f before 0 after
   gives-answered after a = rw (a .is) (record { code = refl; outputs = a .out })

@@ -8,7 +8,7 @@ use lib.Ieee.{Float}
 use Rattle.bits.specs.Bits.{bitN}
 use Rattle.sbr_grid.specs.declared.Answer.the-variants.{Given}
 use Rattle.sbr_grid.specs.Refusals.{answered}
-use Rattle.sbr_grid.specs.Grid.{Grid}
+use Rattle.sbr_grid.specs.Grid.{Grid, recordOf}
 use Rattle.sbr_reader.specs.Inverse.{cleared}
 use Rattle.sbr_reader.proofs.Inverse.{reads-back}
 use Rattle.sbr_encoder.specs.declared.Election.{Election}
@@ -37,6 +37,11 @@ given e = (bitN (e .transient), shown (e .grid))
 given-elected : (e : Elected) → given (electionOf (answered e)) ≡ electionOut e
 given-elected e = ap (λ s. (bitN (e .transient), s)) (shown-record (e .grid))
 
+-- a record that is elected has small counts
+pub elected-few : (n : ℕ) (high low : List ℕ) (x : List Float) (previous : ℤ) (variable : Bool) (e : Elected) → elect n high low x previous variable ≡ answered e → Few (recordOf (e .grid))
+elected-few n high low x previous variable e h =
+    let s = every-election n high low x previous variable e h in few-of (e .grid) (s .fits) (sent-clear _ _ _ s)
+
 module _ (n : ℕ) (high low : List ℕ) (x : List Float) (previous : ℤ) (variable : Bool) (r : Election) (e : r ≡ electionOf (elect n high low x previous variable)) (g : r .answer ≡ Given) where
   -- an election that answers has a record
   elected-of : (a : Elected) × (elect n high low x previous variable ≡ answered a)
@@ -44,10 +49,7 @@ module _ (n : ℕ) (high low : List ℕ) (x : List Float) (previous : ℤ) (vari
 
   -- its counts are small
   pub elect-few : Few (r .grid)
-  elect-few =
-      let a = elected-of in
-      let s = every-election n high low x previous variable (a .0) (a .1) in
-      rw (e ∙ ap electionOf (a .1)) (few-of (a .0 .grid) (s .fits) (sent-clear _ _ _ s))
+  elect-few = let a = elected-of in rw (e ∙ ap electionOf (a .1)) (elected-few n high low x previous variable (a .0) (a .1))
 
   -- it is given whole
   pub has-elected : Out (elect n high low x previous variable) electionOut (given r)

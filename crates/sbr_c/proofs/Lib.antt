@@ -2,3 +2,4 @@ pub mod Laws
 pub mod Answers
 pub mod Readings
 pub mod Elections
+pub mod Sendings

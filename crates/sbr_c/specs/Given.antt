@@ -13,6 +13,7 @@ use Rattle.sbr_time_grid.specs.TimeGrid.{Times}
 use Rattle.sbr_writer.specs.Write.{Wrote}
 use Rattle.sbr_reader.specs.Read.{Frame}
 use Rattle.sbr_encoder.specs.Election.{Elected}
+use Rattle.sbr_run.specs.Run.{Turned, lastBorder}
 
 abbrev pub codeOf : {A : Type 0} → Outcome A → ℕ
 codeOf (answered a) = 0
@@ -52,3 +53,14 @@ electionOut e = (bitN (e .transient), recordOut (e .grid))
 -- energies: the numbers after, those past the rows as they were, and how many the rows hold
 abbrev pub energyOut : List Float → List Float → List Float × ℕ
 energyOut out es = (es ++ drop (length es) out, length es)
+
+-- a turn that sends a frame: bytes, position and border after it, whether it has an onset, its record and its time grid
+abbrev pub sendOut : Turned → List ℕ × ℕ × ℤ × ℕ × (List ℕ × List ℕ × List ℕ × List ℕ) × (List ℕ × List ℕ × ℤ)
+sendOut a = (
+  a .wrote .bytes,
+  a .wrote .position,
+  pos (lastBorder (a .sent .time)),
+  bitN (a .transient),
+  recordOut (a .sent .grid),
+  timeOut (a .sent .time),
+)

@@ -5,6 +5,7 @@ use sbr_envelopes::Estimated;
 use sbr_grid::Answer;
 use sbr_grid::Refusal;
 use sbr_reader::Carried;
+use sbr_run::Place;
 use sbr_writer::Written;
 ghost use mathlib.Core.Bool.{_&&_};
 ghost use lib.Dec.{leb, eqb};
@@ -15,8 +16,10 @@ ghost use Rattle.sbr_writer.specs.Write.{writeGrid};
 ghost use Rattle.sbr_reader.specs.Read.{readGrid};
 ghost use Rattle.sbr_envelopes.specs.Envelopes.{energies};
 ghost use Rattle.sbr_encoder.specs.Election.{elect};
+ghost use Rattle.sbr_run.specs.Run.{turn};
+ghost use Rattle.sbr_run.specs.Forms.{turnFrom};
 ghost use Rattle.sbr_c.specs.Handed.{gridFrom, formed, flagged, forming, slotted};
-ghost use Rattle.sbr_c.specs.Given.{Gives, writeOut, timeOut, frameOut, electionOut, energyOut};
+ghost use Rattle.sbr_c.specs.Given.{Gives, writeOut, timeOut, frameOut, electionOut, energyOut, sendOut};
 
 mod form;
 
@@ -276,5 +279,77 @@ pub extern "C" fn sbr_estimate_envelopes(
             0
         }
         Estimated::Refused(why) => why.number(),
+    }
+}
+
+// A transmitter's turn: elects the grid of a frame, writes it at the bit position and moves position and border on.
+#[no_mangle]
+pub extern "C" fn sbr_send_frame(
+    samples: &[f64],
+    high: &[u8],
+    low: &[u8],
+    variable_borders: u32,
+    num_time_slots: u64,
+    bytes: &mut [u8],
+    position: &mut u64,
+    border: &mut i32,
+    transient: &mut u32,
+    numbers: &mut [u32; 9],
+    freq_res: &mut [u8; 5],
+    rel_bord_0: &mut [u8; 4],
+    rel_bord_1: &mut [u8; 4],
+    t_e: &mut [u32; 6],
+    t_q: &mut [u32; 3],
+    l_a: &mut i32,
+) -> u32
+    ensures { λ r. ⌜ Gives (slotted «num_time_slots» (leb «variable_borders» 1) (turn (turnFrom «num_time_slots» (now (high .entry)) (now (low .entry)) (now (samples .entry)) (eqb «variable_borders» 1) (now (bytes .entry)) (record { carried = record { border = now (border .entry) }; position = now (position .entry) })))) sendOut (now (bytes .entry), now (position .entry), now (border .entry), now (transient .entry), (now (numbers .entry), now («freq_res» .entry), now («rel_bord_0» .entry), now («rel_bord_1» .entry)), (now («t_e» .entry), now («t_q» .entry), now («l_a» .entry))) r (now (bytes .exit), now (position .exit), now (border .exit), now (transient .exit), (now (numbers .exit), now («freq_res» .exit), now («rel_bord_0» .exit), now («rel_bord_1» .exit)), (now («t_e» .exit), now («t_q» .exit), now («l_a» .exit))) ⌝ }
+{
+    if !sbr_time_grid::is_slot_count(num_time_slots as usize) {
+        return Refusal::SlotCount.number();
+    }
+    if variable_borders > 1 {
+        return Refusal::Unwritable.number();
+    }
+    let before = *border;
+    let place = Place {
+        carried: Carried { border: before },
+        position: *position as usize,
+    };
+    let sending = sbr_run::send_frame(
+        samples,
+        high,
+        low,
+        variable_borders == 1,
+        num_time_slots as usize,
+        bytes,
+        place,
+    );
+    let answer = sending.answer;
+    match answer {
+        Answer::Given => {
+            let grid = sending.grid;
+            let times = sending.time;
+            let next = sending.place;
+            let carried = next.carried;
+            let last_sent = carried.border;
+            let onset_sent = sending.transient as u32;
+            let first_list = grid.rel_bord_0;
+            let second_list = grid.rel_bord_1;
+            let border_list = times.t_e;
+            let noise_list = times.t_q;
+            let marked_envelope = times.l_a;
+            *position = next.position as u64;
+            *border = last_sent;
+            *transient = onset_sent;
+            *numbers = form::numbers(grid);
+            *freq_res = form::flag_bytes(grid);
+            *rel_bord_0 = first_list;
+            *rel_bord_1 = second_list;
+            *t_e = border_list;
+            *t_q = noise_list;
+            *l_a = marked_envelope;
+            0
+        }
+        Answer::Refused(why) => why.number(),
     }
 }

@@ -3,4 +3,3 @@ pub mod Transmit
 pub mod Receive
 pub mod Term3
 pub mod TurnWays
-pub mod Sampled

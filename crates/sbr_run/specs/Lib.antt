@@ -2,4 +2,3 @@ pub mod Run
 pub mod Readings
 pub mod Claim
 pub mod Forms
-pub mod Sample

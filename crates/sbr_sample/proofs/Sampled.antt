@@ -20,8 +20,8 @@ use Rattle.sbr_envelopes.specs.Envelopes.{inside, largestFrom, smallestFrom, is
 use Rattle.sbr_build.specs.Build.{fixfixGrid, lateAttackVarvar, fixvarSegs, varfixSegs, fixvarGrid, varfixGrid, variableGrid, segmentsBy}
 use Rattle.sbr_plan.specs.Elect.{attackGrid, plainGrid, chosenGrid}
 use Rattle.sbr_encoder.specs.Election.{elect}
 use Rattle.sbr_run.specs.Run.{State, turn, HandsIn}
-use Rattle.sbr_run.specs.Sample.{terms, turnAt, start, afterOne, afterTwo, Sample}
+use Rattle.sbr_sample.specs.Sample.{terms, turnAt, start, afterOne, afterTwo, Sample}
 
 -- a turn of the sample with 16 slots hands in what is carried
 hands : (s : ℕ) (c : State) → HandsIn terms c (turnAt 16 s c)

@@ -1,0 +1,1 @@
+// A run and its readings, computed: specs/Sample.antt.
