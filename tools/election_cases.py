@@ -19,55 +19,24 @@ Its line, where it is answered: the grid and whether there is an onset; or how m
 NaN, and whether the numbers past them are kept. Where it is refused: the refusal, and for energies whether all numbers are kept.
 """
 import collections
-import os
 import random
 import struct
-import subprocess
 
-ROOT = os.path.dirname(os.path.dirname(os.path.abspath(__file__)))
+from cases import FIXFIX, FIXVAR, HIGH, LOW, VARFIX, VARVAR, needed, onsets, packed_samples, packed_table, place, record, store
+
 RANDOM = random.Random(20261116)
-HIGH, LOW = (10, 12, 14, 16, 20), (10, 14, 20)
 NAN, INF = float('nan'), float('inf')
 SIGNALLING = struct.unpack('<d', struct.pack('<Q', 0xfff0000000000001))[0]
-FIXFIX, FIXVAR, VARFIX, VARVAR = range(4)
-
-
-def needed(slots):
-    return (2 * (slots + 8) + 2) * 128
-
-
-def bits(value):
-    """The bits of a double; a pattern goes in as it is."""
-    return value if isinstance(value, int) else struct.unpack('<Q', struct.pack('<d', value))[0]
-
-
-def place(slot, column, band, im=0):
-    """The index of a sample; slot -1 has the two columns in front of the first slot."""
-    return ((2 * slot + 2 + column) * 64 + band) * 2 + im
 
 
 def frame(kind, slots, samples, high=HIGH, low=LOW, count=None):
     count = needed(slots) if count is None else count
-    out = struct.pack('<BQ', kind, slots) + bytes([len(high)]) + bytes(high) + bytes([len(low)]) + bytes(low)
-    out += struct.pack('<HH', count, len(samples))
-    for i, value in sorted(samples.items()):
-        assert i < count
-        out += struct.pack('<HQ', i, bits(value))
-    return out
+    return struct.pack('<BQ', kind, slots) + packed_table(high) + packed_table(low) + packed_samples(samples, count)
 
 
 def election(slots, samples, border=None, switch=1, **more):
     border = slots if border is None else border
     return frame(1, slots, samples, **more) + struct.pack('<iB', border, switch)
-
-
-def record(cls, flags, b0=0, b1=0, rel0=(), rel1=(), pointer=0, noise=None, num_env=None, num_rel_0=None, num_rel_1=None):
-    num_env = len(flags) if num_env is None else num_env
-    noise = (2 if num_env > 1 else 1) if noise is None else noise
-    out = bytes([cls, num_env, noise]) + bytes(flags) + bytes(5 - len(flags)) + bytes([b0, b1])
-    for rel, count in ((rel0, num_rel_0), (rel1, num_rel_1)):
-        out += bytes([len(rel) if count is None else count]) + bytes(rel) + bytes(4 - len(rel))
-    return out + bytes([pointer])
 
 
 def length(rec, high=HIGH, low=LOW):
@@ -88,11 +57,6 @@ def slot(s, *values):
 def steady(first, last):
     """Slots of energy 100."""
     return {i: v for s in range(first, last) for i, v in slot(s, 10.0).items()}
-
-
-def onsets(at, amplitude=10.0):
-    """Single samples at slots, four or more apart: an onset at each."""
-    return {place(s, s % 2, 10 + s % 10, s % 2): amplitude for s in at}
 
 
 def scattered(slots, count, low=0, high=64):
@@ -298,15 +262,9 @@ def rows():
 def main():
     cases = [case for part in (edges, spreads, plans, odd_numbers, band_tables, orders, rows) for case in part()]
     data = b''.join(cases)
-    oracle = os.path.join(ROOT, 'target', 'oracle', 'oracle')
-    lines = subprocess.run([oracle, 'elections'], input=data, capture_output=True, check=True).stdout
-    folder = os.path.join(ROOT, 'crates', 'election_cases')
-    with open(os.path.join(folder, 'stdin'), 'wb') as out:
-        out.write(data)
-    with open(os.path.join(folder, 'stdout'), 'wb') as out:
-        out.write(lines)
+    lines = store('election_cases', 'elections', data)
     ends = collections.Counter()
-    for case, line in zip(cases, lines.decode().splitlines(), strict=True):
+    for case, line in zip(cases, lines.splitlines(), strict=True):
         words = line.split()
         kind = 'election' if case[0] == 1 else 'energies'
         ends[kind, 'refused ' + words[1] if words[0] == 'refused' else words[0] if case[0] == 1 else 'rows'] += 1

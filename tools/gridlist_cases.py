@@ -8,11 +8,10 @@ crates/gridlist_cases/stdout, which the oracle prints, and says how many cases e
 makes the same files each time.
 """
 import collections
-import os
 import random
-import subprocess
 
-ROOT = os.path.dirname(os.path.dirname(os.path.abspath(__file__)))
+from cases import store
+
 RANDOM = random.Random(20261115)
 PTR_BITS = {1: 1, 2: 2, 3: 2, 4: 3, 5: 3}
 
@@ -150,18 +149,12 @@ def made():
 def main():
     cases = list(made())
     data = b''.join(bytes([len(c) % 256, len(c) // 256]) + c for c in cases)
-    oracle = os.path.join(ROOT, 'target', 'oracle', 'oracle')
-    listed = subprocess.run([oracle, 'gridlist'], input=data, capture_output=True, check=True).stdout
-    folder = os.path.join(ROOT, 'crates', 'gridlist_cases')
-    with open(os.path.join(folder, 'stdin'), 'wb') as out:
-        out.write(data)
-    with open(os.path.join(folder, 'stdout'), 'wb') as out:
-        out.write(listed)
+    listed = store('gridlist_cases', 'gridlist', data)
     ends = collections.Counter()
-    for text in listed.decode().split('.\n')[:-1]:
+    for text in listed.split('.\n')[:-1]:
         last = text.split('\n')[-2] if text else ''
         ends['refused ' + last.split()[-1] if 'refused' in last else 'all frames' if last else 'nothing'] += 1
-    print(len(cases), 'cases,', len(data), 'bytes,', listed.count(b'\n') - len(cases), 'lines:', dict(sorted(ends.items())))
+    print(len(cases), 'cases,', len(data), 'bytes,', listed.count('\n') - len(cases), 'lines:', dict(sorted(ends.items())))
 
 
 main()

@@ -2,42 +2,53 @@
 //! usage: oracle gridlist < CASES    each case: two bytes of length, low byte first, and an input of `gridlist`;
 //! prints each listing and a line with a dot.
 //!        oracle elections < CASES   each case as tools/election_cases.py says; prints a line for each.
+//!        oracle grids < CASES       each case as tools/grid_cases.py says; prints a line for each.
+//!        oracle runs < CASES        each run as tools/run_cases.py says; prints a line for each turn and reading.
 use std::io::{Read, Write};
 
 use oracle::sbr_encoder::SbrEncoder;
 use oracle::sbr_qmf::Complex;
 use oracle::{sbr_grid, sbr_time_grid};
-use oxideav_core::bits::BitReader;
+use oxideav_core::bits::{BitReader, BitWriter};
 extern crate oxideav_core;
 
 fn spaced(xs: &[i32]) -> String {
     xs.iter().map(|x| x.to_string()).collect::<Vec<_>>().join(" ")
 }
 
-/// A frame's line with the position and the border after it, or the number of its refusal.
-fn frame(bytes: &[u8], at: usize, slots: i32, border: i32) -> std::result::Result<(String, usize, i32), u32> {
+/// A record with its time grid.
+struct Reading {
+    grid: sbr_grid::SbrGrid,
+    time: sbr_time_grid::TimeGrid,
+    position: usize,
+    border: i32,
+}
+
+/// The frame at a position, with the position and the border after it, or the number of its refusal.
+fn read(bytes: &[u8], at: usize, slots: u64, border: i32) -> std::result::Result<Reading, u32> {
     if slots != 15 && slots != 16 {
         return Err(1);
     }
+    let slots = slots as i32;
     let mut reader = BitReader::new(bytes, at);
     let grid = match sbr_grid::SbrGrid::parse(&mut reader) {
         Ok(g) => g,
         Err(_) => return Err(if reader.ended { 7 } else { 8 }),
     };
     let time = sbr_time_grid::derive_time_grid(&grid, slots).map_err(|_| 6u32)?;
-    if time.t_e[0] != border - slots {
+    if i64::from(time.t_e[0]) != i64::from(border) - i64::from(slots) {
         return Err(9);
     }
-    let flags: String = grid.freq_res.iter().map(|&f| if f { 'H' } else { 'L' }).collect();
-    let line = format!(
-        "{:?} {} / {} / {} / {}",
-        grid.frame_class,
-        spaced(&time.t_e),
-        spaced(&time.t_q),
-        time.l_a,
-        flags
-    );
-    Ok((line, reader.position(), *time.t_e.last().unwrap()))
+    let border = *time.t_e.last().unwrap();
+    Ok(Reading { grid, time, position: reader.position(), border })
+}
+
+fn letters(flags: &[bool]) -> String {
+    flags.iter().map(|&f| if f { 'H' } else { 'L' }).collect()
+}
+
+fn frame_text(grid: &sbr_grid::SbrGrid, time: &sbr_time_grid::TimeGrid) -> String {
+    format!("{:?} {} / {} / {} / {}", grid.frame_class, spaced(&time.t_e), spaced(&time.t_q), time.l_a, letters(&grid.freq_res))
 }
 
 fn listing(input: &[u8], out: &mut String) {
@@ -45,13 +56,13 @@ fn listing(input: &[u8], out: &mut String) {
         out.push_str("0 refused 7\n");
         return;
     }
-    let (slots, mut border, mut at) = (input[0] as i32, input[1] as i32, 0);
+    let (slots, mut border, mut at) = (u64::from(input[0]), i32::from(input[1]), 0);
     for i in 0..input[2] {
-        match frame(&input[3..], at, slots, border) {
-            Ok((line, next, last)) => {
-                out.push_str(&format!("{i} {line}\n"));
-                at = next;
-                border = last;
+        match read(&input[3..], at, slots, border) {
+            Ok(r) => {
+                out.push_str(&format!("{i} {}\n", frame_text(&r.grid, &r.time)));
+                at = r.position;
+                border = r.border;
             }
             Err(number) => {
                 out.push_str(&format!("{i} refused {number}\n"));
@@ -90,6 +101,20 @@ impl<'a> Input<'a> {
     fn byte(&mut self) -> usize {
         self.number(1) as usize
     }
+
+    fn table(&mut self) -> &'a [u8] {
+        let n = self.byte();
+        self.bytes(n)
+    }
+
+    fn samples(&mut self) -> Vec<f64> {
+        let mut x = vec![0.0; self.number(2) as usize];
+        for _ in 0..self.number(2) {
+            let i = self.number(2) as usize;
+            x[i] = f64::from_bits(self.number(8));
+        }
+        x
+    }
 }
 
 /// What both kinds of cases hand in.
@@ -103,16 +128,8 @@ struct Frame<'a> {
 impl<'a> Frame<'a> {
     fn read(input: &mut Input<'a>) -> Self {
         let slots = input.number(8);
-        let n = input.byte();
-        let high = input.bytes(n);
-        let n = input.byte();
-        let low = input.bytes(n);
-        let mut x = vec![0.0; input.number(2) as usize];
-        for _ in 0..input.number(2) {
-            let i = input.number(2) as usize;
-            x[i] = f64::from_bits(input.number(8));
-        }
-        Frame { slots, high, low, x }
+        let (high, low) = (input.table(), input.table());
+        Frame { slots, high, low, x: input.samples() }
     }
 
     /// The refusals that both calls share, in their order: 1, 3, 2.
@@ -156,11 +173,10 @@ fn election(frame: &Frame, border: i32, variable: bool) -> String {
     // below this the Rust wraps; the lead is 0 all the same
     let border = border.max(i32::MIN + 16);
     let (g, transient) = frame.encoder(variable).elect(&frame.columns(), border);
-    let flags: String = g.freq_res.iter().map(|&f| if f { 'H' } else { 'L' }).collect();
     format!(
         "{:?} {} b0 {} b1 {} rel0{} rel1{} p {} noise {} amp {} transient {}",
         g.frame_class,
-        flags,
+        letters(&g.freq_res),
         g.var_bord_0,
         g.var_bord_1,
         blanks(&g.rel_bord_0),
@@ -203,17 +219,14 @@ impl<'a> Record<'a> {
         }
     }
 
-    /// The Rust's record, where the counts are within the lists and each border byte that the class uses is at most 3.
-    fn grid(&self) -> Option<sbr_grid::SbrGrid> {
+    /// The Rust's record, where the counts are within the lists.
+    fn listed(&self) -> Option<sbr_grid::SbrGrid> {
         use sbr_grid::FrameClass::{FixFix, FixVar, VarFix, VarVar};
-        let frame_class = [FixFix, FixVar, VarFix, VarVar][self.class];
-        let leads = matches!(frame_class, VarFix | VarVar) && self.var_bord[0] > 3;
-        let trails = matches!(frame_class, FixVar | VarVar) && self.var_bord[1] > 3;
-        if self.num_env > 5 || self.num_rel[0] > 4 || self.num_rel[1] > 4 || leads || trails {
+        if self.num_env > 5 || self.num_rel[0] > 4 || self.num_rel[1] > 4 {
             return None;
         }
         Some(sbr_grid::SbrGrid {
-            frame_class,
+            frame_class: [FixFix, FixVar, VarFix, VarVar][self.class],
             num_env: self.num_env,
             num_noise: self.num_noise,
             freq_res: self.freq_res[..self.num_env].iter().map(|&f| f != 0).collect(),
@@ -224,6 +237,15 @@ impl<'a> Record<'a> {
             pointer: self.pointer as u32,
             amp_res_override: false,
         })
+    }
+
+    /// The same, where each border byte that the class uses is at most 3.
+    fn grid(&self) -> Option<sbr_grid::SbrGrid> {
+        let (first, second) = (self.class >= 2, self.class % 2 == 1);
+        if first && self.var_bord[0] > 3 || second && self.var_bord[1] > 3 {
+            return None;
+        }
+        self.listed()
     }
 }
 
@@ -268,13 +290,147 @@ fn elections(all: &[u8]) -> String {
     out
 }
 
+/// Writes the bits of a grid at a position of a range, or says that it has too little room; answers the position after them.
+fn put(bytes: &mut [u8], position: u64, writer: &BitWriter) -> Option<u64> {
+    let bits = 8 * bytes.len() as u64;
+    if position > bits || u64::from(writer.width) > bits - position {
+        return None;
+    }
+    for i in 0..writer.width {
+        let at = position as usize + i as usize;
+        let bit = (writer.value >> (writer.width - 1 - i) & 1) as u8;
+        bytes[at / 8] = bytes[at / 8] & !(128 >> (at % 8)) | bit << (7 - at % 8);
+    }
+    Some(position + u64::from(writer.width))
+}
+
+fn hex(bytes: &[u8]) -> String {
+    bytes.iter().map(|b| format!("{b:02x}")).collect()
+}
+
+fn time_line(record: &Record, slots: u64) -> String {
+    if slots != 15 && slots != 16 {
+        return "refused 1".to_string();
+    }
+    match record.grid().map(|g| sbr_time_grid::derive_time_grid(&g, slots as i32)) {
+        Some(Ok(t)) => format!("time {} / {} / {}", spaced(&t.t_e), spaced(&t.t_q), t.l_a),
+        _ => "refused 6".to_string(),
+    }
+}
+
+fn write_line(record: &Record, bytes: &mut [u8], lent: usize, position: u64) -> String {
+    let mut writer = BitWriter::default();
+    let fits = record.num_env <= 5 && record.num_rel.iter().all(|&n| n <= 4);
+    let written = fits && record.listed().is_some_and(|g| oracle::sbr_writer::write_grid(&mut writer, &g).is_ok());
+    let text = match (written, put(&mut bytes[..if written { lent } else { 0 }], position, &writer)) {
+        (false, _) => "refused 5".to_string(),
+        (true, None) => "refused 4".to_string(),
+        (true, Some(next)) => format!("written to {next}"),
+    };
+    format!("{text} bytes {}", hex(bytes))
+}
+
+fn grids(all: &[u8]) -> String {
+    let mut out = String::new();
+    let mut input = Input(all);
+    while !input.0.is_empty() {
+        let kind = input.byte();
+        let record = Record::read(&mut input);
+        let line = if kind == 1 {
+            time_line(&record, input.number(8))
+        } else {
+            let lent = input.number(2) as usize;
+            let mut bytes = [input.byte() as u8; 12];
+            write_line(&record, &mut bytes, lent, input.number(8))
+        };
+        out.push_str(&line);
+        out.push('\n');
+    }
+    out
+}
+
+/// Where a run stands: the border of the last frame and the position after it.
+#[derive(Clone, Copy)]
+struct Place {
+    border: i32,
+    position: u64,
+}
+
+/// A turn: the text of the frame that it sends and the place after it, or the number of its refusal.
+fn turn(frame: &Frame, variable: bool, bytes: &mut [u8], place: &mut Place) -> std::result::Result<String, u32> {
+    if let Some(number) = frame.refusal() {
+        return Err(number);
+    }
+    let (grid, transient) = frame.encoder(variable).elect(&frame.columns(), place.border);
+    let time = sbr_time_grid::derive_time_grid(&grid, frame.slots as i32).map_err(|_| 6u32)?;
+    let mut writer = BitWriter::default();
+    oracle::sbr_writer::write_grid(&mut writer, &grid).map_err(|_| 5u32)?;
+    let position = put(bytes, place.position, &writer).ok_or(4u32)?;
+    *place = Place { border: *time.t_e.last().unwrap(), position };
+    let rows = frame.encoder(variable).estimate(&frame.columns(), &grid, &time.t_e).concat().len();
+    Ok(format!("sent {} rows {rows} transient {}{}", frame_text(&grid, &time), transient as u8, place_text(place)))
+}
+
+fn place_text(place: &Place) -> String {
+    format!(" at {} border {}", place.position, place.border)
+}
+
+/// A list of turns and readings. What a reading must give is what was sent, so the text of the frame is taken from there.
+fn run(input: &mut Input, out: &mut String) {
+    let steps = input.number(2);
+    let start = Place { border: input.number(4) as u32 as i32, position: input.number(8) };
+    let (high, low) = (input.table(), input.table());
+    let mut bytes = vec![input.byte() as u8; 2000];
+    let (mut sender, mut receiver) = (start, start);
+    let (mut sent, mut frames_read) = (Vec::new(), 0);
+    for _ in 0..steps {
+        let kind = input.byte();
+        let lent = input.number(2) as usize;
+        let slots = input.number(8);
+        if kind == 1 {
+            let variable = input.byte() != 0;
+            let frame = Frame { slots, high, low, x: input.samples() };
+            match turn(&frame, variable, &mut bytes[..lent], &mut sender) {
+                Ok(line) => {
+                    out.push_str(&line);
+                    sent.push(line[5..line.find(" transient").unwrap()].to_string());
+                }
+                Err(number) => out.push_str(&format!("turn refused {number}")),
+            }
+        } else {
+            match read(&bytes[..lent], receiver.position as usize, slots, receiver.border) {
+                Ok(r) => {
+                    receiver = Place { border: r.border, position: r.position as u64 };
+                    assert!(sent[frames_read].starts_with(&frame_text(&r.grid, &r.time)));
+                    out.push_str(&format!("read {}{} as sent", sent[frames_read], place_text(&receiver)));
+                    frames_read += 1;
+                }
+                Err(number) => out.push_str(&format!("reading refused {number}")),
+            }
+        }
+        out.push('\n');
+    }
+    out.push_str(&format!("run: {} sent, {frames_read} read, bytes {}\n", sent.len(), hex(&bytes)));
+}
+
+fn runs(all: &[u8]) -> String {
+    let mut out = String::new();
+    let mut input = Input(all);
+    while !input.0.is_empty() {
+        run(&mut input, &mut out);
+    }
+    out
+}
+
 fn main() {
     let args: Vec<String> = std::env::args().collect();
     let lines = match args.get(1).map(String::as_str) {
         Some("gridlist") if args.len() == 2 => gridlist,
         Some("elections") if args.len() == 2 => elections,
+        Some("grids") if args.len() == 2 => grids,
+        Some("runs") if args.len() == 2 => runs,
         _ => {
-            eprintln!("usage: oracle gridlist|elections < CASES");
+            eprintln!("usage: oracle gridlist|elections|grids|runs < CASES");
             std::process::exit(2);
         }
     };

@@ -1,18 +1,18 @@
 -- Bits of one byte put and read at once, and one turn of a loop that goes byte by byte.
 use mathlib.Core.Path.{_≡_, refl, ap, _∙_}
 use mathlib.Core.Bool.{Bool}
-use mathlib.Core.List.{List}
+use mathlib.Core.List.{List, _++_}
 use Prim.Native.Nat.{ℕ, zero, suc, _+_, _-_, _*_, _/_, _%_, _^_, _<_, _≤_}
 use native.Mathlib.Nat.{add-suc}
 use native.Mathlib.Omega.{arith}
 use lib.Arith.{digits-lt}
-use lib.Pow.{pow-add}
+use lib.Pow.{pow-add, high, low}
 use lib.ListN.{length, getD, set}
 use lib.Seq.{getD-set-same, set-getD, set-set, lt-length-set}
 use Rattle.bits.specs.Bits.{bitAt, withBit, getBit, putBit, putBits, bitsAt, bitsOf, numFrom, numOf}
-use Rattle.bits.proofs.Numbers.{bit-high, bitsOf-split, length-bitsOf, num-append, num-from}
+use Rattle.bits.proofs.Numbers.{bit-high, bitsOf-split, length-bitsOf, num-after, num-append, num-from, num-lt}
 use Rattle.bits.proofs.Bytes.{withField, field-none, field-next}
-use Rattle.bits.proofs.Stream.{put-append, bitsAt-add}
+use Rattle.bits.proofs.Stream.{put-append, length-bitsAt, bitsAt-add}
 
 -- the bit r of the byte i, with k bits after it
 put-first : (l : List ℕ) (i r k : ℕ) (b : Bool) → r + suc k ≡ 8 → putBit l (8 * i + r) b ≡ set l i (withBit (getD l i 0) k b)
@@ -94,3 +94,45 @@ pub grows : (v f n k w : ℕ) → n ≤ k → k ≤ w → v < 2 ^ (w - k) → f 
 grows v f n k w h i g s =
     let e : w - k + n ≡ w - (k - n) = omega arith in
     rw (← pow-add 2 (w - k) n, e) at (digits-lt g s)
+
+-- the number of digits between others, from the number of them all
+num-between : (xs ys zs : List Bool) → numOf (xs ++ (ys ++ zs)) / 2 ^ length zs % 2 ^ length ys ≡ numOf ys
+num-between xs ys zs =
+    rw (num-append 0 xs (ys ++ zs), num-append (numOf xs) ys zs, num-after (numFrom (numOf xs) ys) zs, high (numFrom (numOf xs) ys) (length zs) (num-lt zs), num-after (numOf xs) ys)
+    (low (numOf xs) (length ys) (num-lt ys))
+
+-- a whole byte and k bits more, after the digits of a
+byte-first : (l : List ℕ) (a i j k : ℕ) → getD l i 0 < 256 → j ≡ i + 1 → numFrom a (bitsAt l (8 * i) (8 + k)) ≡ numFrom (a * 256 + getD l i 0) (bitsAt l (8 * j) k)
+byte-first l a i j k h e =
+    let q : 8 * i / 8 ≡ i = omega arith in
+    let s : 8 - 8 * i % 8 - 8 ≡ 0 = omega arith in
+    let t : 8 + k - 8 ≡ k = omega arith in
+    let u : 8 * i + 8 ≡ 8 * j = omega arith in
+    let v : getD l i 0 / 2 ^ 0 % 2 ^ 8 ≡ getD l i 0 = omega arith in
+    get-turn l a (8 * i) 8 (8 + k) (omega arith) (omega arith) ∙ rw (q, s, t, u, v)
+
+-- five bytes joined into one number, the first the highest
+abbrev pub five : List ℕ → ℕ → ℕ
+five l i = (((getD l i 0 * 256 + getD l (i + 1) 0) * 256 + getD l (i + 2) 0) * 256 + getD l (i + 3) 0) * 256 + getD l (i + 4) 0
+
+-- that is the number of their bits
+num-five : (l : List ℕ) (i : ℕ) → ((j : ℕ) → getD l j 0 < 256) → numOf (bitsAt l (8 * i) 40) ≡ five l i
+num-five l i f =
+    byte-first l 0 i (i + 1) 32 (f i) refl
+    ∙ byte-first l _ (i + 1) (i + 2) 24 (f (i + 1)) (omega arith)
+    ∙ byte-first l _ (i + 2) (i + 3) 16 (f (i + 2)) (omega arith)
+    ∙ byte-first l _ (i + 3) (i + 4) 8 (f (i + 3)) (omega arith)
+    ∙ byte-first l _ (i + 4) (i + 5) 0 (f (i + 4)) (omega arith)
+    ∙ get-done l _ (8 * (i + 5)) 0 refl
+    ∙ omega arith
+
+-- 32 bits within five bytes
+pub get-five : (l : List ℕ) (p : ℕ) → ((j : ℕ) → getD l j 0 < 256) → five l (p / 8) / 2 ^ (8 - p % 8) % 2 ^ 32 ≡ numOf (bitsAt l p 32)
+get-five l p f =
+    let n = 8 - p % 8 in
+    let w : p % 8 + (32 + n) ≡ 40 = omega arith in
+    let q : 8 * (p / 8) + p % 8 ≡ p = omega arith in
+    let xs = bitsAt l (8 * (p / 8)) (p % 8) in
+    let e : bitsAt l (8 * (p / 8)) 40 ≡ xs ++ (bitsAt l p 32 ++ bitsAt l (p + 32) n) =
+    rw (w, q, bitsAt-add l p 32 n) at (bitsAt-add l (8 * (p / 8)) (p % 8) (32 + n)) in
+    rw (← num-five l (p / 8) f, e) (rw (length-bitsAt l p 32, length-bitsAt l (p + 32) n) at (num-between xs (bitsAt l p 32) (bitsAt l (p + 32) n)))

@@ -80,3 +80,20 @@ pub fn get(buf: &[u8], pos: usize, width: u32) -> u32
     }
     v
 }
+
+// Five bytes joined into one number, the first the highest.
+fn joined(a: u8, b: u8, c: u8, d: u8, e: u8) -> u64
+    ensures { λ r. ⌜ r ≡ (((a * 256 + b) * 256 + c) * 256 + d) * 256 + e ⌝ }
+{
+    (((a as u64 * 256 + b as u64) * 256 + c as u64) * 256 + d as u64) * 256 + e as u64
+}
+
+// The 32 bits from a position on, which lie within five bytes.
+pub fn get_32(buf: &[u8], pos: usize) -> u32
+    requires { ⌜ pos / 8 + 5 ≤ length (now buf) ⌝ }
+    ensures { λ r. ⌜ r ≡ numOf (bitsAt (now (buf .entry)) pos 32) ⌝ }
+{
+    let i = pos / 8;
+    let five = joined(buf[i], buf[i + 1], buf[i + 2], buf[i + 3], buf[i + 4]);
+    ((five >> (8 - pos % 8)) % 0x1_0000_0000) as u32
+}

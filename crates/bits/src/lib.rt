@@ -67,6 +67,12 @@ pub fn peek_bits(buf: &[u8], pos: usize) -> Window
         return Window { value: 0, width: 0 };
     }
     let left = end - pos;
+    if 40 <= left {
+        return Window {
+            value: field::get_32(buf, pos),
+            width: 32,
+        };
+    }
     let width: u32 = if left < 32 { left as u32 } else { 32 };
     Window {
         value: field::get(buf, pos, width),

@@ -3,6 +3,7 @@ use sbr_grid::FrameClass;
 use sbr_grid::SbrGrid;
 ghost use mathlib.Core.Path.{_≡_};
 ghost use mathlib.Core.Bool.{false};
+ghost use mathlib.Core.Option.{none, some};
 ghost use mathlib.Core.List.{[], _∷_, _++_, map, reverse};
 ghost use Prim.Native.Nat.{ℕ, _+_, _-_, _*_, _≤_, _<_};
 ghost use lib.ListN.{length, replicate};
@@ -59,6 +60,14 @@ impl Lengths {
             slots,
         }
     }
+}
+
+// Two lengths.
+fn two(a: u32, b: u32) -> Lengths
+    requires { ⌜ (a ≤ 255) × (b ≤ 255) ⌝ }
+    ensures { λ r. ⌜ (lengths r ≡ a ∷ b ∷ []) × (r .count ≡ 2) ⌝ }
+{
+    Lengths::none().push(a).push(b)
 }
 
 // The stored form of a length.
@@ -245,39 +254,47 @@ fn aligned_attack(s: u32, lead: u32) -> u32
     if sp < lead + 2 { lead + 2 } else { sp }
 }
 
+// There is no such grid.
+fn not_late() -> LateGrid
+    ensures { λ r. ⌜ r ≡ lateOf none ⌝ }
+{
+    LateGrid {
+        answer: LateAttack::NotLate,
+        grid: SbrGrid::empty(),
+    }
+}
+
+// The grid of one late onset that ends `over` slots past the frame.
+fn late_grid(lead: u32, over: u32, segs: Lengths) -> LateGrid
+    requires { ⌜ (lead ≤ 3) × (over ≤ 3) × (segs .count ≤ 3) ⌝ }
+    ensures { λ r. ⌜ r ≡ lateOf (some (varvarGrid lead over (lengths segs ++ (2 ∷ [])) [] (segs .count))) ⌝ }
+{
+    LateGrid {
+        answer: LateAttack::Late,
+        grid: varvar_grid(lead, over, segs.push(2), Lengths::none(), segs.count),
+    }
+}
+
 // One late onset after a variable lead.
 pub fn late_attack_varvar(s: u32, lead: u32, nts: u32) -> LateGrid
     requires { ⌜ (4 ≤ s) × (s < nts) × (lead ≤ 3) × (15 ≤ nts) × (nts ≤ 16) ⌝ }
     ensures { λ r. ⌜ r ≡ lateOf (lateAttackVarvar s lead nts) ⌝ }
 {
-    let no_fit = LateGrid {
-        answer: LateAttack::NotLate,
-        grid: SbrGrid::empty(),
-    };
     if lead == 0 {
-        return no_fit;
+        return not_late();
     }
     let sp = aligned_attack(s, lead);
     if sp + 2 < nts {
-        return no_fit;
+        return not_late();
     }
     if nts < sp {
-        return no_fit;
+        return not_late();
     }
     let segs = even_segments(sp - lead);
     if SbrGrid::MAX_SIDE_REL < segs.count + 1 {
-        return no_fit;
+        return not_late();
     }
-    LateGrid {
-        answer: LateAttack::Late,
-        grid: varvar_grid(
-            lead,
-            sp + 3 - nts,
-            segs.push(2),
-            Lengths::none(),
-            segs.count,
-        ),
-    }
+    late_grid(lead, sp + 3 - nts, segs)
 }
 
 // The slots after the second onset's envelope: to the end of the frame, 2 at least, made even upward.
@@ -289,46 +306,66 @@ fn tail_of(s2: u32, nts: u32) -> u32
     tail + tail % 2
 }
 
+// There is no such grid.
+fn not_double() -> DoubleGrid
+    ensures { λ r. ⌜ r ≡ doubleOf none ⌝ }
+{
+    DoubleGrid {
+        answer: DoubleAttack::NotDouble,
+        grid: SbrGrid::empty(),
+    }
+}
+
+// The grid of two onsets, the first one length after the lead.
+fn near_double(lead: u32, over: u32, first: u32, tail: u32) -> DoubleGrid
+    requires { ⌜ (lead ≤ 3) × (over ≤ 3) × (first ≤ 8) × (tail ≤ 8) ⌝ }
+    ensures { λ r. ⌜ r ≡ doubleOf (some (varvarGrid lead over (first ∷ 2 ∷ []) (tail ∷ 2 ∷ []) 1)) ⌝ }
+{
+    DoubleGrid {
+        answer: DoubleAttack::Double,
+        grid: varvar_grid(lead, over, two(first, 2), two(tail, 2), 1),
+    }
+}
+
+// The grid of two onsets, the first two lengths after the lead.
+fn far_double(lead: u32, over: u32, segs: Lengths) -> DoubleGrid
+    requires { ⌜ (lead ≤ 3) × (over ≤ 3) × (segs .count ≡ 2) ⌝ }
+    ensures { λ r. ⌜ r ≡ doubleOf (some (varvarGrid lead over (lengths segs ++ (2 ∷ [])) (2 ∷ []) 2)) ⌝ }
+{
+    DoubleGrid {
+        answer: DoubleAttack::Double,
+        grid: varvar_grid(lead, over, segs.push(2), Lengths::none().push(2), 2),
+    }
+}
+
 // Two onsets with an envelope of two slots each.
 pub fn double_attack_grid(s1: u32, s2: u32, lead: u32, nts: u32) -> DoubleGrid
     requires { ⌜ (4 ≤ s1) × (s1 + 4 ≤ s2) × (s2 < nts) × (lead ≤ 3) × (15 ≤ nts) × (nts ≤ 16) ⌝ }
     ensures { λ r. ⌜ r ≡ doubleOf (doubleAttackGrid s1 s2 lead nts) ⌝ }
 {
-    let no_fit = DoubleGrid {
-        answer: DoubleAttack::NotDouble,
-        grid: SbrGrid::empty(),
-    };
     let tail = tail_of(s2, nts);
     if 8 < tail {
-        return no_fit;
+        return not_double();
     }
     let t = s2 + 2 + tail;
     if nts + 3 < t {
-        return no_fit;
+        return not_double();
     }
     let sp1 = aligned_attack(s1, lead);
     if s2 < sp1 + 3 {
-        return no_fit;
+        return not_double();
     }
     if sp1 - lead <= 8 {
-        let rel_0 = Lengths::none().push(sp1 - lead).push(2);
-        let rel_1 = Lengths::none().push(tail).push(2);
-        return DoubleGrid {
-            answer: DoubleAttack::Double,
-            grid: varvar_grid(lead, t - nts, rel_0, rel_1, 1),
-        };
+        return near_double(lead, t - nts, sp1 - lead, tail);
     }
     if s2 + 2 < nts {
-        return no_fit;
+        return not_double();
     }
     let segs = even_segments(sp1 - lead);
     if segs.count != 2 {
-        return no_fit;
+        return not_double();
     }
-    DoubleGrid {
-        answer: DoubleAttack::Double,
-        grid: varvar_grid(lead, s2 + 2 - nts, segs.push(2), Lengths::none().push(2), 2),
-    }
+    far_double(lead, s2 + 2 - nts, segs)
 }
 
 // The lengths from the onset to the end, last first.
@@ -336,14 +373,13 @@ fn fixvar_segs(rest: u32) -> Lengths
     requires { ⌜ rest ≤ 16 ⌝ }
     ensures { λ r. ⌜ (lengths r ≡ reverse (fixvarSegs rest)) × (1 ≤ r .count) × (r .count ≤ 3) ⌝ }
 {
-    let none = Lengths::none();
     if rest <= 2 {
-        return none.push(rest);
+        return Lengths::none().push(rest);
     }
     if rest <= 10 {
-        return none.push(rest - 2).push(2);
+        return two(rest - 2, 2);
     }
-    none.push(rest - 10).push(8).push(2)
+    two(rest - 10, 8).push(2)
 }
 
 // One onset, no lead: an even border on it, then lengths back from the end.
@@ -372,11 +408,10 @@ fn varfix_segs(span: u32) -> Lengths
     requires { ⌜ span ≤ 16 ⌝ }
     ensures { λ r. ⌜ (lengths r ≡ varfixSegs span) × (1 ≤ r .count) × (r .count ≤ 2) ⌝ }
 {
-    let none = Lengths::none();
     if span <= 8 {
-        return none.push(span);
+        return Lengths::none().push(span);
     }
-    none.push(8).push(span - 8)
+    two(8, span - 8)
 }
 
 // The mark of a VarFix grid of k lengths, the last of them the onset's envelope or not.

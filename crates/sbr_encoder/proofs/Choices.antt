@@ -24,7 +24,7 @@ use Rattle.sbr_bands.specs.Tables.{entry, top}
 use Rattle.sbr_onsets.specs.Onsets.{halvesAlike, onsetsOf, leadOf}
 use Rattle.sbr_onsets.proofs.OnsetSame.{onsets-array, halves-array}
 use Rattle.sbr_onsets.proofs.OnsetLead.{frame-case}
-use Rattle.sbr_plan.proofs.Every.{chosen-is-sound}
+use Rattle.sbr_chosen.proofs.Every.{chosen-is-sound}
 use Rattle.sbr_search.specs.declared.Onsets.{Onsets}
 use Rattle.sbr_search.specs.Forms.{onsetList}
 use Rattle.sbr_plan.specs.Elect.{chosenGrid}

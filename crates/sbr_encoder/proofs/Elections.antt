@@ -20,22 +20,18 @@ use Rattle.sbr_energy.specs.Energy.{slotEnergy}
 use Rattle.sbr_reader.proofs.Inverse.{reads-back}
 use Rattle.sbr_search.specs.Plans.{Case}
 use Rattle.sbr_plan.specs.Elect.{chosenGrid}
-use Rattle.sbr_plan.specs.Chosen.{Sound}
-use Rattle.sbr_plan.proofs.Every.{chosen-is-sound}
+use Rattle.sbr_chosen.specs.Chosen.{Sound}
+use Rattle.sbr_chosen.proofs.Every.{chosen-is-sound}
 use Rattle.sbr_bands.specs.Tables.{Span, spans, spansFrom, tablesFit, entry, top}
 use Rattle.sbr_onsets.specs.Onsets.{halvesAlike, onsetsOf, leadOf}
-use Rattle.sbr_envelopes.specs.Envelopes.{electFreqRes, samplesNeeded}
+use Rattle.sbr_envelopes.specs.Envelopes.{samplesNeeded}
+use Rattle.sbr_means.proofs.Spans.{spans-length}
+use Rattle.sbr_resolution.specs.Resolution.{electFreqRes}
 use Rattle.sbr_encoder.specs.Election.{withFreqRes, resolved, Elected, electedFor, electedOf, elect}
 use Rattle.sbr_encoder.specs.Claims.{Sent, EveryElection}
 use Rattle.sbr_onsets.proofs.OnsetLead.{frame-case}
 use Rattle.sbr_encoder.proofs.Resolution.{time-res, Kept, kept-res}
 use Rattle.sbr_encoder.proofs.Kept.{chosen-kept}
-
--- as many spans as entries, less one
-pub length-spans : (xs : List ℕ) (i k : ℕ) → length (spansFrom xs i k) ≡ k
-unfolding spansFrom
-length-spans xs i zero = refl
-length-spans xs i (suc k) = ap suc (length-spans xs (suc i) k)
 
 -- a record that was read, and the bits behind it
 reading : List Bool → Grid → Outcome (Grid × List Bool)
@@ -98,7 +94,7 @@ for-onsets x high low n lead variable even os c =
     let t = s .time in
     let ends = time-ends n g t (s .derived) in
     let fs = map (electFreqRes x high low) (spans (t .tE)) in
-    let many : length fs ≡ length (g .freqRes) = rw (length-map (spans (t .tE)) (electFreqRes x high low), length-spans (t .tE) 0 (length (t .tE) - 1), ends .count) (omega arith) in
+    let many : length fs ≡ length (g .freqRes) = rw (length-map (spans (t .tE)) (electFreqRes x high low), spans-length (t .tE) 0 (length (t .tE) - 1), ends .count) (omega arith) in
     rw (s .derived) (resolved-sent (g .frameClass) n lead fs g refl many s (chosen-kept variable even n lead os c))
 
 pub every-election : EveryElection

@@ -12,8 +12,8 @@ use Rattle.sbr_writer.specs.Write.{every, writable, fieldsFit, classFits}
 use Rattle.sbr_reader.specs.Inverse.{cleared}
 use Rattle.sbr_search.specs.Plans.{Case}
 use Rattle.sbr_plan.specs.Elect.{chosenGrid}
-use Rattle.sbr_plan.proofs.Computed.{chosenOf}
-use Rattle.sbr_plan.proofs.Every.{allCases, at-case}
+use Rattle.sbr_chosen.proofs.Computed.{chosenOf}
+use Rattle.sbr_chosen.proofs.Every.{is-true, allCases, at-case}
 use Rattle.sbr_encoder.proofs.Resolution.{Kept}
 
 -- ---- equality of grids as a test
@@ -121,10 +121,6 @@ good variable even n lead os = let g = chosenOf variable even os lead n in writa
 all-good : T (allCases good)
 unfolding good
 all-good = tt
-
-is-true : (b : Bool) → T b → b ≡ true
-is-true true t = refl
-is-true false t = absurd t
 
 pub chosen-kept : (variable even : Bool) (n lead : ℕ) (os : List ℕ) → Case n lead os → Kept (chosenGrid variable even os lead n)
 unfolding good

@@ -16,8 +16,8 @@ use Rattle.sbr_grid.proofs.Laws.{lengths}
 use Rattle.sbr_time_grid.specs.TimeGrid.{Times, byClass}
 use Rattle.sbr_qmf.specs.Qmf.{Samples as SampleAt}
 use Rattle.sbr_bands.specs.Tables.{spans}
-use Rattle.sbr_envelopes.specs.Envelopes.{electFreqRes}
-use Rattle.sbr_envelopes.proofs.EnvelopeSpans.{mapped-length}
+use Rattle.sbr_resolution.specs.Resolution.{electFreqRes}
+use Rattle.sbr_means.proofs.Spans.{mapped-length}
 use Rattle.sbr_encoder.specs.Election.{withFreqRes, resolved}
 
 -- the entry of FixFix

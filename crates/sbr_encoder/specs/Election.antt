@@ -15,7 +15,8 @@ use Rattle.sbr_energy.specs.Energy.{slotEnergy}
 use Rattle.sbr_plan.specs.Elect.{chosenGrid, fallbackGrid}
 use Rattle.sbr_bands.specs.Tables.{entry, top, tablesFit, spans}
 use Rattle.sbr_onsets.specs.Onsets.{halvesAlike, onsetsOf, leadOf}
-use Rattle.sbr_envelopes.specs.Envelopes.{samplesNeeded, electFreqRes}
+use Rattle.sbr_envelopes.specs.Envelopes.{samplesNeeded}
+use Rattle.sbr_resolution.specs.Resolution.{electFreqRes}
 use Rattle.sbr_encoder.specs.declared.Election.{Election}
 
 abbrev pub withFreqRes : List Bool → Grid → Grid

@@ -16,7 +16,7 @@ ghost use Rattle.sbr_energy.specs.Energy.{slotEnergies};
 ghost use Rattle.sbr_plan.specs.Elect.{chosenGrid};
 ghost use Rattle.sbr_bands.specs.Tables.{entry, top};
 ghost use Rattle.sbr_onsets.specs.Onsets.{halvesAlike, onsetsOf, leadOf};
-ghost use Rattle.sbr_envelopes.specs.Envelopes.{Ready};
+ghost use Rattle.sbr_resolution.specs.Resolution.{Ready};
 ghost use Rattle.sbr_encoder.specs.Election.{hasOnset, resolved, electedOf, elect, electionOf};
 
 // A grid, and whether the frame has an onset.
@@ -55,7 +55,7 @@ fn resolved(x: &[f64], high: &[u8], low: &[u8], grid: SbrGrid, num_time_slots: u
     let time = derived.time;
     let t_e = time.t_e;
     SbrGrid {
-        freq_res: sbr_envelopes::resolutions(x, high, low, t_e, time.num_env),
+        freq_res: sbr_resolution::resolutions(x, high, low, t_e, time.num_env),
         ..grid
     }
 }

@@ -3,14 +3,15 @@ use Prim.Native.Nat.{ℕ, zero, suc, _+_, _-_, _*_, _≤_, _<_}
 use mathlib.Core.Path.{_≡_, refl}
 use mathlib.Core.Logic.{inl, inr}
 use mathlib.Core.List.{List, _∷_, _++_, append-assoc}
+use native.Mathlib.Decide.{ℕ-discrete}
 use native.Mathlib.Omega.{arith}
 use native.Mathlib.Nat.{sub-zero, not-suc-le-zero, le-of-suc-le-suc, eq-or-lt-of-le}
 use native.Mathlib.Numerals.{add-one}
 use lib.ListN.{length, set, getD, replicate, length-append, length-replicate}
-use lib.Seq.{set-at, getD-at}
+use lib.Seq.{set-at, set-set, getD-at}
 use lib.Ieee as Ieee
 use lib.Ieee.{Float, binary64}
-use Rattle.sbr_qmf.specs.Qmf.{Samples}
+use Rattle.sbr_qmf.specs.Qmf.{Samples, normSqr}
 use Rattle.sbr_energy.specs.Floats.{total, zero64}
 use Rattle.sbr_energy.specs.Energy.{bandSum, slotEnergy, listOf, slotEnergies}
 
@@ -23,6 +24,20 @@ total-none f = refl
 pub total-more : (f : ℕ → Float) (n : ℕ) (sum v : Float) → sum ≡ total f n → v ≡ f n → Ieee.add binary64 sum v ≡ total f (n + 1)
 unfolding total
 total-more f n sum v p q = rw (add-one n, p, q)
+
+-- no band of a column is summed yet
+pub band-none : (x : Samples) (k c : ℕ) → zero64 ≡ bandSum x k k c
+band-none x k c =
+    let e : k - k ≡ 0 = omega arith in
+    rw e (total-none _)
+
+-- one band more
+pub band-more : (x : Samples) (kl k c : ℕ) (sum v : Float) → kl ≤ k → sum ≡ bandSum x kl k c → v ≡ normSqr (x c k)
+    → Ieee.add binary64 sum v ≡ bandSum x kl (k + 1) c
+band-more x kl k c sum v h p q =
+    let e : k + 1 - kl ≡ k - kl + 1 = omega arith in
+    let d : kl + (k - kl) ≡ k = omega arith in
+    rw e (total-more _ _ _ _ p (rw d q))
 
 -- two numbers more a turn, of those from place c on
 pub total-two : (g : ℕ → Float) (c i : ℕ) (sum a b : Float) → sum ≡ total (λ j. g (c + j)) (2 * i) → a ≡ g (c + 2 * i) → b ≡ g (c + 2 * i + 1)
@@ -57,6 +72,17 @@ unfolding listOf
 list-more f N i z v l h p q =
     let e : N - i ≡ suc (N - (i + 1)) = omega arith in
     rw (q, e, p, set-at (listOf f i) z (replicate (N - (i + 1)) z) (f i) i (list-length f i), add-one i, append-assoc)
+
+-- the next place is set, and then it once more or the one after it
+pub list-two : (f : ℕ → Float) (N i j : ℕ) (z v w : Float) (l : List Float) → i ≤ j → j ≤ i + 1 → j < N → v ≡ f i → w ≡ f j → l ≡ listOf f i ++ replicate (N - i) z
+    → set (set l i v) j w ≡ listOf f (j + 1) ++ replicate (N - (j + 1)) z
+list-two f N i j z v w l a b h p q r = elim (ℕ-discrete j i) [
+  | yes e ↦ let d : w ≡ f i = rw e at q in rw (e, set-set l i v w) (list-more f N i z w l (omega arith) d r)
+  | no e ↦
+      let d : j ≡ i + 1 = omega arith in
+      let k : w ≡ f (i + 1) = rw d at q in
+      rw d (list-more f N (i + 1) z w (set l i v) (omega arith) k (list-more f N i z v l (omega arith) p r))
+]
 
 -- the number at a place of a list, with anything behind it
 pub list-at : (f : ℕ → Float) (n i : ℕ) (rest : List Float) (d : Float) → i < n → getD (listOf f n ++ rest) i d ≡ f i

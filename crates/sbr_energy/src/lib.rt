@@ -1,12 +1,12 @@
 // Energies of samples, and the operations on numbers of 64 bits that elections and energies use: src/sbr_encoder.rs.
 ghost use mathlib.Core.Path.{_≡_};
-ghost use Prim.Native.Nat.{ℕ, _+_, _-_, _*_, _≤_, _<_};
+ghost use Prim.Native.Nat.{_+_, _*_, _≤_};
 ghost use lib.ListN.{length};
 ghost use Rattle.sbr_qmf.specs.Qmf.{columns};
 ghost use Rattle.sbr_energy.specs.Floats.{maxOf, minOf, meanOf, spreadIsHigh};
 ghost use Rattle.sbr_energy.specs.Energy.{bandSum, slotEnergies};
 
-mod sums;
+mod samples;
 
 // The larger number; a NaN is passed over.
 pub fn max(a: f64, b: f64) -> f64
@@ -51,35 +51,51 @@ pub fn spread_is_high(quotient: f64) -> bool
     quotient > SPREAD
 }
 
-// The sums of two columns.
-pub struct Pair {
+// The sums of four columns.
+pub struct Sums {
     pub a: f64,
     pub b: f64,
+    pub c: f64,
+    pub d: f64,
 }
 
-// The sums of the bands kl to kh of the columns c and c + 1, side by side.
-pub fn band_sums(x: &[f64], kl: usize, kh: usize, c: usize) -> Pair
-    requires { ⌜ (kl ≤ kh) × (kh ≤ 64) × ((c + 2) * 128 ≤ length (now x)) ⌝ }
+// The sums of the bands kl to kh of the columns c and c + 1, and of e and e + 1, side by side.
+pub fn band_sums(x: &[f64], kl: usize, kh: usize, c: usize, e: usize) -> Sums
+    requires { ⌜ (kl ≤ kh) × (kh ≤ 64) × ((c + 2) * 128 ≤ length (now x)) × ((e + 2) * 128 ≤ length (now x)) ⌝ }
     ensures { λ r. ⌜ (r .a ≡ bandSum (columns (now (x .entry))) kl kh c) × (r .b ≡ bandSum (columns (now (x .entry))) kl kh (c + 1)) ⌝ }
+    ensures { λ r. ⌜ (r .c ≡ bandSum (columns (now (x .entry))) kl kh e) × (r .d ≡ bandSum (columns (now (x .entry))) kl kh (e + 1)) ⌝ }
 {
     let mut a = 0.0;
     let mut b = 0.0;
-    for i in 0..kh - kl {
-        a = a + sums::energy(x, c, kl + i);
-        b = b + sums::energy(x, c + 1, kl + i);
+    let mut s = 0.0;
+    let mut t = 0.0;
+    for k in kl..kh {
+        a = a + samples::energy(x, c, k);
+        b = b + samples::energy(x, c + 1, k);
+        s = s + samples::energy(x, e, k);
+        t = t + samples::energy(x, e + 1, k);
     }
-    Pair { a: a, b: b }
+    Sums {
+        a: a,
+        b: b,
+        c: s,
+        d: t,
+    }
 }
 
-// The energies of the first n slots over the bands kl to kh; the places past them are 0.0.
+// The energies of the first n slots over the bands kl to kh, two slots at a time; the places past them are 0.0.
 pub fn slot_energies(x: &[f64], n: usize, kl: usize, kh: usize) -> [f64; 24]
     requires { ⌜ (n ≤ 24) × (kl ≤ kh) × (kh ≤ 64) × ((2 * n + 2) * 128 ≤ length (now x)) ⌝ }
     ensures { λ r. ⌜ r ≡ slotEnergies (columns (now (x .entry))) kl kh n ⌝ }
 {
     let mut out = [0.0; 24];
-    for s in 0..n {
-        let pair = band_sums(x, kl, kh, 2 * s + 2);
-        out[s] = 0.0 + pair.a + pair.b;
+    let mut s = 0;
+    while s < n {
+        let last = if s + 1 < n { s + 1 } else { s };
+        let sums = band_sums(x, kl, kh, 2 * s + 2, 2 * last + 2);
+        out[s] = 0.0 + sums.a + sums.b;
+        out[last] = 0.0 + sums.c + sums.d;
+        s = last + 1;
     }
     out
 }

@@ -1,8 +1,2 @@
-pub mod EnvelopePlaces
-pub mod EnvelopeSpans
-pub mod EnvelopeMeans
-pub mod EnvelopeRows
-pub mod EnvelopeSpread
-pub mod EnvelopeInside
-pub mod EnvelopeTimes
-pub mod EnvelopeAnswers
+pub mod Rows
+pub mod Answers

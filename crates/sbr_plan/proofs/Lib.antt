@@ -1,5 +1,1 @@
 pub mod PlanCases
-pub mod Computed
-pub mod Cases
-pub mod Every
-pub mod Best

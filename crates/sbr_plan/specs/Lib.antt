@@ -1,2 +1,1 @@
 pub mod Elect
-pub mod Chosen

@@ -38,18 +38,6 @@ pub border-bits : (b : ℤ) (k : ℕ) → SFits w32 b → k < 2 ^ 31 → eqb (of
 border-bits (pos b) k f h = refl
 border-bits (negsuc b) k f h = ne-eqb (2 ^ 32 - suc b) k (λ e. omega arith)
 
--- ---- outcomes
-
--- an outcome that is handed out as a refusal is that refusal
-pub refused-is : {A : Type 0} (o : Outcome A) (e : Refusal) → answerOf o ≡ Refused e → o ≡ refused e
-refused-is (answered a) e h = cc
-refused-is (refused d) e h = cc
-
--- an outcome that is handed out as given has a value
-pub given-is : {A : Type 0} (o : Outcome A) → answerOf o ≡ Given → (a : A) × (o ≡ answered a)
-given-is (answered a) h = (a, refl)
-given-is (refused e) h = let z : _≡_ {A = ℕ} 0 1 = cc in absurd (omega arith)
-
 -- no bits behind what is left
 behind-none : {A : Type 0} (o : Outcome (A × List Bool)) → behind [] o ≡ o
 behind-none (answered x) = rw (append-nil (x .1))

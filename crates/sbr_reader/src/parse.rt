@@ -179,11 +179,18 @@ fn fix_fix(body: Window) -> Parsed
     Parsed {
         answer: Answer::Given,
         grid: SbrGrid {
+            frame_class: FrameClass::FixFix,
             num_env,
             num_noise: noise_of(num_env),
             freq_res,
+            var_bord_0: 0,
+            var_bord_1: 0,
+            rel_bord_0: [0; SbrGrid::MAX_REL_BORD],
+            num_rel_0: 0,
+            rel_bord_1: [0; SbrGrid::MAX_REL_BORD],
+            num_rel_1: 0,
+            pointer: 0,
             amp_res_override: num_env == 1,
-            ..SbrGrid::empty()
         },
         left,
     }
@@ -307,9 +314,9 @@ pub fn sbr_grid(bits: Window) -> Parsed
     let class = FrameClass::from_bits(two_bits(value, width) as u32);
     let body = Window { value, width };
     match class {
-        FrameClass::FixFix => fix_fix(body),
-        FrameClass::FixVar => fix_var(body),
-        FrameClass::VarFix => var_fix(body),
-        FrameClass::VarVar => var_var(body),
+        FrameClass::FixFix => return fix_fix(body),
+        FrameClass::FixVar => return fix_var(body),
+        FrameClass::VarFix => return var_fix(body),
+        FrameClass::VarVar => return var_var(body),
     }
 }

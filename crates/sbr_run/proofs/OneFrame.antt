@@ -16,6 +16,7 @@ use Rattle.bits.proofs.Room.{room}
 use Rattle.sbr_grid.specs.declared.Refusal.the-variants.{SlotCount, Room, Unwritable}
 use Rattle.sbr_grid.specs.Refusals.{Outcome, answered, refused}
 use Rattle.sbr_grid.specs.Grid.{Grid, numEnv}
+use Rattle.sbr_chosen.proofs.Every.{is-true}
 use Rattle.sbr_time_grid.specs.TimeGrid.{Times, slotCount, timeGrid}
 use Rattle.sbr_time_grid.proofs.Ends.{time-ends, time-passes}
 use Rattle.sbr_writer.specs.Syntax.{gridBits}
@@ -95,10 +96,6 @@ pub record Good (n b : ℕ) (f : Sent) : Type 0 where
 -- what its reading gives
 abbrev pub got : Sent → ℕ → Frame
 got f q = record { grid = f .grid; time = f .time; position = q + length (gridBits (f .grid)); border = lastBorder (f .time) }
-
-is-true : (b : Bool) → T b → b ≡ true
-is-true true t = refl
-is-true false t = absurd t
 
 -- a receiver that stands at its bits, with the border that it meets, reads it
 pub read-ok : (n b q : ℕ) (bytes : List ℕ) (f : Sent) (rest : List Bool) → Good n b f → bitsFrom bytes q ≡ gridBits (f .grid) ++ rest

@@ -20,8 +20,10 @@ use Rattle.sbr_writer.specs.Syntax.{gridBits}
 use Rattle.sbr_writer.specs.Write.{Wrote, writable, writeGrid}
 use Rattle.sbr_reader.specs.Syntax.{sbrGrid}
 use Rattle.sbr_bands.specs.Tables.{tablesFit, Span, spans}
-use Rattle.sbr_envelopes.specs.Envelopes.{samplesNeeded, meanIn, row, rows, rowsOf, energies}
-use Rattle.sbr_encoder.proofs.Elections.{every-election, length-spans}
+use Rattle.sbr_envelopes.specs.Envelopes.{samplesNeeded, row, rows, rowsOf, energies}
+use Rattle.sbr_means.specs.Means.{meanIn}
+use Rattle.sbr_means.proofs.Spans.{spans-length}
+use Rattle.sbr_encoder.proofs.Elections.{every-election}
 use Rattle.sbr_run.specs.Run.{Turn, Sent, Terms, State, lastBorder, after, sent, Run, rowLengths, Frame, frameOf, stream}
 use Rattle.sbr_run.specs.Claim.{Sendable, Differ, Apart, sumOf, Term3}
 use Rattle.sbr_run.proofs.OneFrame.{Good}
@@ -78,7 +80,7 @@ differ-sym a b ne c bs m rs = ne (sym c) (sym bs) (sym m) (sym rs)
 -- ---- energies
 
 length-row : (x : SampleAt) (table : List ℕ) (env : Span) → length (row x table env) ≡ length table - 1
-length-row x table env = length-map (spans table) (meanIn x env) ∙ length-spans table 0 (length table - 1)
+length-row x table env = length-map (spans table) (meanIn x env) ∙ spans-length table 0 (length table - 1)
 
 pick : (f : Bool) (high low : List ℕ) → length (cond f high low) - 1 ≡ cond f (length high - 1) (length low - 1)
 pick true high low = refl
@@ -104,7 +106,7 @@ count-timed n high low x g room es (answered t) q e =
     let ends = time-ends n g t q in
     let all = rows x high low (g .freqRes) (spans (t .tE)) in
     ap length (sym (fitted-is room all es (leb (length all) room) e))
-    ∙ length-rows x high low (g .freqRes) (spans (t .tE)) (omega (arith, length-spans (t .tE) 0 (length (t .tE) - 1), ends .count))
+    ∙ length-rows x high low (g .freqRes) (spans (t .tE)) (omega (arith, spans-length (t .tE) 0 (length (t .tE) - 1), ends .count))
 
 count-by : (n : ℕ) (high low : List ℕ) (x : List Float) (g : Grid) (room : ℕ) (es : List Float) (a b c : Bool)
     → cond a (cond b (cond c (rowsOf (columns x) high low g room (timeGrid n g)) (refused Samples)) (refused Tables)) (refused SlotCount) ≡ answered es

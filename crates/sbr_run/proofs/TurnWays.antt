@@ -21,7 +21,7 @@ use Rattle.sbr_writer.specs.Write.{Wrote, writeGrid, writtenOf}
 use Rattle.sbr_writer.proofs.Facts.{both, fields-told}
 use Rattle.sbr_reader.specs.declared.Reading.{Reading}
 use Rattle.sbr_reader.specs.Read.{Frame, readingOf}
-use Rattle.sbr_reader.proofs.ReadLaws.{given-is}
+use Rattle.sbr_grid.proofs.Outcomes.{given-is}
 use Rattle.sbr_encoder.specs.declared.Election.{Election}
 use Rattle.sbr_encoder.specs.Election.{Elected, elect, electionOf}
 use Rattle.sbr_encoder.proofs.Elections.{every-election}
@@ -48,11 +48,6 @@ module _ (t : Turn) where
   elect-refuses w a = rw a
 
   module _ (e : Elected) (a : electing t ≡ answered e) where
-    -- the time grid refuses the record
-    pub time-refuses : (w : Refusal) → timeGrid (t .timeSlots) (e .grid) ≡ refused w → turn t ≡ refused w
-    unfolding turn
-    time-refuses w b = rw (a, b)
-
     module _ (tm : Times) (b : timeGrid (t .timeSlots) (e .grid) ≡ answered tm) where
       -- the writer refuses it
       pub write-refuses : (w : Refusal) → writeGrid (t .bytes) (t .position) (e .grid) ≡ refused w → turn t ≡ refused w
@@ -66,24 +61,27 @@ module _ (t : Turn) where
 
 -- ---- what the calls hand out where they answer
 
--- a record whose view is the elected grid
+-- a record whose view is the elected grid, which has a time grid
 pub record Chosen (t : Turn) (r : Election) : Type 0 where
   pub elected : Elected
   pub is : electing t ≡ answered elected
   pub whole : r ≡ electionOf (answered elected)
   pub view : viewOf (r .grid) ≡ elected .grid
+  pub time : (m : Times) × (timeGrid (t .slots) (elected .grid) ≡ answered m)
 
 pub chosen : (t : Turn) (r : Election) → r ≡ electionOf (electing t) → r .answer ≡ Given → Chosen t r
 chosen t r e g =
     let o = given-is (electing t) (ap (λ (x : Election). x .answer) (sym e) ∙ g) in
     let w = e ∙ ap electionOf (o .1) in
     let h = o .0 .grid in
-    let f = fields-told h (both _ _ (every-election _ _ _ _ _ _ (o .0) (o .1) .fits) .0) in
+    let s = every-election _ _ _ _ _ _ (o .0) (o .1) in
+    let f = fields-told h (both _ _ (s .fits) .0) in
     record {
       elected = o .0;
       is = o .1;
       whole = w;
       view = ap (λ (x : Election). viewOf (x .grid)) w ∙ view-record h (f .most) (f .rel0) (f .rel1);
+      time = (s .time, s .derived);
     }
 
 -- the last border of a time grid t, in its record r
@@ -106,11 +104,10 @@ pub record Timed (n : ℕ) (g : Grid) (d : Derived) : Type 0 where
   pub whole : d .time ≡ timeRecord time
   pub last : Last time (d .time)
 
-pub timed : (n : ℕ) (g : Grid) (d : Derived) → d ≡ derivedOf (timeGrid n g) → d .answer ≡ Given → Timed n g d
-timed n g d e h =
-    let o = given-is (timeGrid n g) (ap (λ (x : Derived). x .answer) (sym e) ∙ h) in
-    let w : d .time ≡ timeRecord (o .0) = ap (λ (x : Derived). x .time) (e ∙ ap derivedOf (o .1)) in
-    record { time = o .0; is = o .1; whole = w; last = last-of n g (o .0) (d .time) (o .1) w }
+pub timed : (n : ℕ) (g : Grid) (d : Derived) (t : Times) → timeGrid n g ≡ answered t → d ≡ derivedOf (timeGrid n g) → Timed n g d
+timed n g d t h e =
+    let w : d .time ≡ timeRecord t = ap (λ (x : Derived). x .time) (e ∙ ap derivedOf h) in
+    record { time = t; is = h; whole = w; last = last-of n g t (d .time) h w }
 
 -- a write that hands out a position
 pub wrote-to : (o : Outcome Wrote) (q : ℕ) → writtenOf o ≡ To q → (w : Wrote) × (o ≡ answered w) × (q ≡ w .position)

@@ -9,6 +9,7 @@ ghost use mathlib.Core.Path.{_≡_};
 ghost use Prim.Native.Nat.{_≤_};
 ghost use lib.IntN.{pos};
 ghost use lib.ListN.{getD};
+ghost use Rattle.sbr_grid.specs.declared.Answer.the-variants.{Given};
 ghost use Rattle.sbr_grid.specs.Refusals.{refused};
 ghost use Rattle.sbr_run.specs.Run.{turn};
 ghost use Rattle.sbr_run.specs.Readings.{reading};
@@ -58,6 +59,25 @@ fn last_border(time: TimeGrid) -> i32
     t_e[last] as i32
 }
 
+// What is handed out for a frame that was written up to a position.
+fn sent(grid: SbrGrid, time: TimeGrid, transient: bool, position: usize) -> Sending
+    requires { ⌜ (time .«num_env» ≤ 5) × (getD (time .«t_e») (time .«num_env») 0 ≤ 255) ⌝ }
+    ensures { λ r. ⌜ r ≡ record { answer = Given; grid = grid; time = time; transient = transient; place = record { carried = record { border = pos (getD (time .«t_e») (time .«num_env») 0) }; position = position } } ⌝ }
+{
+    Sending {
+        answer: Answer::Given,
+        grid,
+        time,
+        transient,
+        place: Place {
+            carried: Carried {
+                border: last_border(time),
+            },
+            position,
+        },
+    }
+}
+
 // A transmitter's turn: election from the carried border, time grid of the record, its writing at the position. The call that refuses is
 // the last, and nothing moves then.
 pub fn send_frame(
@@ -86,26 +106,12 @@ pub fn send_frame(
         return refusal(why, place);
     }
     let grid = elected.grid;
+    // An elected record always has a time grid.
     let derived = sbr_time_grid::derive_time_grid(grid, num_time_slots);
-    let timed = derived.answer;
-    if let Answer::Refused(why) = timed {
-        return refusal(why, place);
-    }
     let time = derived.time;
     match sbr_writer::write_grid(bytes, place.position, grid) {
-        Written::To(position) => Sending {
-            answer: Answer::Given,
-            grid,
-            time,
-            transient: elected.transient,
-            place: Place {
-                carried: Carried {
-                    border: last_border(time),
-                },
-                position,
-            },
-        },
-        Written::Refused(why) => refusal(why, place),
+        Written::To(position) => return sent(grid, time, elected.transient, position),
+        Written::Refused(why) => return refusal(why, place),
     }
 }
 

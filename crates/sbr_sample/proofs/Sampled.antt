@@ -16,7 +16,7 @@ use Rattle.sbr_qmf.specs.Qmf.{columns}
 use Rattle.sbr_energy.specs.Floats.{total, spreadIsHigh}
 use Rattle.sbr_onsets.specs.Onsets.{peakOf, isAttack, onsetsFrom, detectOnsets, halvesAlike}
 use Rattle.sbr_bands.specs.Tables.{among, drawn, highFits, lowFits, spansFrom}
-use Rattle.sbr_envelopes.specs.Envelopes.{inside, largestFrom, smallestFrom, isSpread, someSpread, electFreqRes}
+use Rattle.sbr_resolution.specs.Resolution.{inside, largestFrom, smallestFrom, isSpread, someSpread, electFreqRes}
 use Rattle.sbr_build.specs.Build.{fixfixGrid, lateAttackVarvar, fixvarSegs, varfixSegs, fixvarGrid, varfixGrid, variableGrid, segmentsBy}
 use Rattle.sbr_plan.specs.Elect.{attackGrid, plainGrid, chosenGrid}
 use Rattle.sbr_encoder.specs.Election.{elect}

@@ -8,17 +8,19 @@ use native.Mathlib.Omega.{arith}
 use lib.ListN.{length, drop, set, getD, drop-of-length-le, List·getD-map}
 use Rattle.sbr_grid.specs.Grid.{first}
 use Rattle.sbr_grid.proofs.Laws.{length-first, getD-first}
-use Rattle.sbr_search.specs.declared.WantedBorder.{WantedBorder}
+use Rattle.sbr_borders.specs.declared.WantedBorder.{WantedBorder}
 use Rattle.sbr_search.specs.declared.Onsets.{Onsets}
 use Rattle.sbr_search.specs.declared.Cost.{Cost}
 use Rattle.sbr_search.specs.declared.Cost.the-variants.{Total, NoTotal}
-use Rattle.sbr_search.specs.declared.Wanted.{Wanted}
-use Rattle.sbr_search.specs.Search.{Plan, Best, search, bare, isolated, onsetAt, planned, plainWins, multiOnsetGrid}
+use Rattle.sbr_borders.specs.declared.Wanted.{Wanted}
+use Rattle.sbr_search.specs.Search.{Plan, Best, search, bare, isolated, planned, plainWins, multiOnsetGrid}
+use Rattle.sbr_borders.specs.Borders.{onsetAt}
 use Rattle.sbr_search.specs.Plans.{OnsetsFrom, Case}
 use Rattle.sbr_search.specs.Forms.{onsetList}
-use Rattle.sbr_search.specs.Forms.{wantedList, InFrame, bestBy}
+use Rattle.sbr_search.specs.Forms.{bestBy}
+use Rattle.sbr_borders.specs.Forms.{wantedList, InFrame}
 use Rattle.sbr_search.proofs.SearchFrames.{bounds}
-use Rattle.sbr_search.proofs.SearchLists.{drop-next, first-put}
+use Rattle.sbr_borders.proofs.BorderLists.{drop-next, first-put}
 
 -- the first k borders of the array stand for all but the onsets from i on
 pub record Bared (ws : List WantedBorder) (os : List ℕ) (k i : ℕ) (bs : List WantedBorder) : Type 0 where

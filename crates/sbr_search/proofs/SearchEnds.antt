@@ -11,14 +11,16 @@ use borrow.Author.Tests.{lt-ltb, le-ltb, leb-true}
 use lib.Dec.{ltb}
 use lib.ListN.{length, replicate}
 use Rattle.sbr_grid.specs.Grid.{first}
-use Rattle.sbr_search.specs.declared.Turned.{Turned}
-use Rattle.sbr_search.specs.declared.Turn.the-variants.{Next, Last}
-use Rattle.sbr_search.specs.declared.WantedBorder.{WantedBorder}
-use Rattle.sbr_search.specs.declared.Fit.the-variants.{Leading, NoFit}
+use Rattle.sbr_borders.specs.declared.Turned.{Turned}
+use Rattle.sbr_borders.specs.declared.Turn.the-variants.{Next, Last}
+use Rattle.sbr_borders.specs.declared.WantedBorder.{WantedBorder}
 use Rattle.sbr_search.specs.declared.Cost.{Cost}
 use Rattle.sbr_search.specs.declared.Cost.the-variants.{Total, NoTotal}
-use Rattle.sbr_search.specs.Search.{places, prices, risesFrom, lastOr, reaches, fit, Plan, Best, beats, tryEnds, nextShifts, tryShifts, tryFrom, search, onsetAt}
-use Rattle.sbr_search.specs.Forms.{turnList, fitOf, bestBy}
+use Rattle.sbr_search.specs.Search.{Plan, Best, beats, tryEnds, tryShifts, tryFrom, search}
+use Rattle.sbr_borders.specs.Borders.{places, prices, risesFrom, lastOr, fit, nextShifts, onsetAt}
+use Rattle.sbr_search.specs.Forms.{bestBy}
+use Rattle.sbr_borders.specs.Forms.{turnList}
+use Rattle.sbr_borders.proofs.BorderFits.{left}
 
 -- what is not below is at least as large
 le-of-not : (c d : ℕ) → (c < d → ⊥) → Dec (suc c ≤ d) → d ≤ c
@@ -33,53 +35,6 @@ same-by a b c d f g (no h) = rw (le-ltb a b (omega arith), le-ltb c d (le-of-not
 -- two tests that hold together are equal
 pub ltb-same : (a b c d : ℕ) → (a < b → c < d) → (c < d → a < b) → ltb a b ≡ ltb c d
 ltb-same a b c d f g = same-by a b c d f g (decLe (suc a) b)
-
--- what is left of n at k, as one more than what is left at k + 1
-left : (n k : ℕ) → k < n → n - k ≡ suc (n - (k + 1))
-left n k h = omega arith
-
-module _ (n k lead t : ℕ) (bs : List ℕ) (h : k < n) where
-  -- k leading lengths do not reach every border: the next count
-  pub fit-next : (o : Option ℕ) → reaches lead t k bs ≡ false → fit (n - k) k lead t bs ≡ o → fit (n - (k + 1)) (k + 1) lead t bs ≡ o
-  unfolding fit
-  fit-next o e f = rw (add-one k) (rw (left n k h, e, add-one k) at f)
-
-  -- k leading lengths reach every border
-  pub fit-stop : (o : Option ℕ) → reaches lead t k bs ≡ true → fit (n - k) k lead t bs ≡ o → some k ≡ o
-  unfolding fit
-  fit-stop o e f = rw (left n k h, e) at f
-
--- no count is left
-pub fit-end : (n k lead t : ℕ) (bs : List ℕ) (o : Option ℕ) → n ≤ k → fit (n - k) k lead t bs ≡ o → none ≡ o
-unfolding fit
-fit-end n k lead t bs o h f = let e : n - k ≡ 0 = omega arith in rw e at f
-
--- an answer with a count has that count
-pub fit-leading : (o : Option ℕ) (k : ℕ) → fitOf o ≡ Leading k → o ≡ some k
-fit-leading none k e = cc
-fit-leading (some j) k e = cc
-
--- an answer without one has none
-pub fit-nothing : (o : Option ℕ) → fitOf o ≡ NoFit → o ≡ none
-fit-nothing none e = refl
-fit-nothing (some j) e = cc
-
--- leading lengths that reach every border are at most as many as the borders
-reach-within : (lead t k : ℕ) (bs : List ℕ) → reaches lead t k bs ≡ true → k ≤ length bs
-unfolding reaches
-reach-within lead t k bs e = let p = simp and-eq-true-iff at e in leb-true k (length bs) (p .0 .0 .0 .1)
-
--- one step of the next law
-fit-by : (b : Bool) (k m l : ℕ) (o : Option ℕ) → (b ≡ true → k ≤ l) → (o ≡ some m → m ≤ l) → cond b (some k) o ≡ some m → m ≤ l
-fit-by true k m l o f g e = let h : k ≡ m = cc in omega (arith, f refl)
-fit-by false k m l o f g e = g e
-
--- the count that fits is at most that of the borders
-pub fit-within : (j k lead t : ℕ) (bs : List ℕ) (m : ℕ) → fit j k lead t bs ≡ some m → m ≤ length bs
-unfolding fit
-fit-within zero k lead t bs m e = let z : _≡_ {A = ℕ} 0 1 = cc in absurd (omega arith)
-fit-within (suc j) k lead t bs m e =
-    fit-by (reaches lead t k bs) k m (length bs) (fit j (suc k) lead t bs) (reach-within lead t k bs) (fit-within j (suc k) lead t bs m) e
 
 -- whether a cost beats a best plan does not depend on its plan
 pub beats-any : (t : ℕ) (c : Cost) (p q : Plan) → beats t (bestBy c p) ≡ beats t (bestBy c q)

@@ -4,21 +4,13 @@ use mathlib.Core.Bool.{true}
 use mathlib.Core.List.{List, [], _∷_}
 use Prim.Native.Nat.{ℕ, zero, suc, _+_, _≤_, _<_}
 use native.Mathlib.Omega.{arith}
-use native.Mathlib.Decide.{ℕ-discrete}
-use borrow.Author.Tests.{ne-eqb, eqb-true}
 use lib.ListN.{length, getD}
 use Rattle.sbr_grid.specs.Grid.{first}
 use Rattle.sbr_grid.proofs.Laws.{length-first}
-use Rattle.sbr_time_grid.specs.TimeGrid.{slotCount}
+use Rattle.sbr_time_grid.proofs.Laws.{slot-range}
 use Rattle.sbr_search.specs.declared.Onsets.{Onsets}
 use Rattle.sbr_search.specs.Plans.{OnsetsFrom, Case}
 use Rattle.sbr_search.specs.Forms.{onsetList}
-
--- the slot count is 15 or 16
-slot-range : (n : ℕ) → slotCount n ≡ true → Dec (n ≡ 15) → (15 ≤ n) × (n ≤ 16)
-unfolding slotCount
-slot-range n e (yes p) = omega arith
-slot-range n e (no p) = omega (arith, eqb-true n 16 (rw (ne-eqb n 15 p) at e))
 
 -- at most k onsets
 onsets-few : (k lo n : ℕ) (os : List ℕ) → OnsetsFrom k lo n os → length os ≤ k
@@ -37,7 +29,7 @@ pub record Bounds (n lead : ℕ) (o : Onsets) : Type 0 where
 -- every case is within them
 pub bounds : (n lead : ℕ) (o : Onsets) → Case n lead (onsetList o) → Bounds n lead o
 bounds n lead o c =
-    let s = slot-range n (c .slots) (ℕ-discrete n 15) in
+    let s = slot-range n (c .slots) in
     record {
       least = s .0;
       most = s .1;

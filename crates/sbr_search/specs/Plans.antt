@@ -7,8 +7,9 @@ use mathlib.Core.Option.{Option, none, some}
 use Prim.Native.Nat.{ℕ, zero, suc, _+_, _*_, _≤_, _<_}
 use Rattle.sbr_grid.specs.Refusals.{answered}
 use Rattle.sbr_time_grid.specs.TimeGrid.{Times, slotCount, timeGrid}
-use Rattle.sbr_search.specs.declared.WantedBorder.{WantedBorder}
-use Rattle.sbr_search.specs.Search.{shiftCount, places, prices, risesFrom, lastOr, reaches, Plan, Best, search, bare, isolated, planGrid, multiOnsetGrid}
+use Rattle.sbr_borders.specs.declared.WantedBorder.{WantedBorder}
+use Rattle.sbr_search.specs.Search.{Plan, Best, search, bare, isolated, planGrid, multiOnsetGrid}
+use Rattle.sbr_borders.specs.Borders.{shiftCount, places, prices, risesFrom, lastOr, reaches}
 
 -- at most k onsets from slot lo on and before n, each 4 or more after the one before
 abbrev pub OnsetsFrom : ℕ → ℕ → ℕ → List ℕ → Type 0

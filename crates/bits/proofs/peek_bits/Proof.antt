@@ -19,11 +19,20 @@ unfolding bitsAt numFrom
 returns c = let a = c .before .before .before .args in window (a .buf .now) (a .pos) 0 0 (omega arith) refl
 
 -- the width is what is left, at most 32
-wide : (c : tie.Joined2) → let a = c .before .before .before .before .args in c .if2 .width ≡ min 32 (endOf (length (a .buf .now)) - a .pos)
-wide c = ⊎-elim (λ w. omega arith) (λ w. omega arith) (c .if2 .came)
+wide : (c : tie.Joined3) → let a = c .before .before .before .before .before .args in c .if3 .width ≡ min 32 (endOf (length (a .buf .now)) - a .pos)
+wide c = ⊎-elim (λ w. omega arith) (λ w. omega arith) (c .if3 .came)
 
 sub-left : tie.Need-sub-left
 sub-left c = search needs
+
+get-32-requires : tie.Need-get-32-requires
+unfolding endOf
+get-32-requires c κs = omega arith
+
+returns-2 : tie.Need-returns-2
+returns-2 c =
+    let a = c .before .before .before .before .before .args in
+    window (a .buf .now) (a .pos) 32 (c .get-32 .result) (omega arith) (c .get-32 .ensures)
 
 cast-width : tie.Need-cast-width
 cast-width c = search needs
@@ -31,11 +40,11 @@ cast-width c = search needs
 get-requires : tie.Need-get-requires
 get-requires c κs = omega (arith, wide c)
 
-returns-2 : tie.Need-returns-2
-returns-2 c =
-    let a = c .before .before .before .before .before .args in
-    window (a .buf .now) (a .pos) (c .before .if2 .width) (c .get .result) (wide (c .before)) (c .get .ensures .0)
+returns-3 : tie.Need-returns-3
+returns-3 c =
+    let a = c .before .before .before .before .before .before .args in
+    window (a .buf .now) (a .pos) (c .before .if3 .width) (c .get .result) (wide (c .before)) (c .get .ensures .0)
 
 pub peek-bits-spec : {M : Type 1} → statement M
 peek-bits-spec =
-    tie.close (tie.spec end-of-requires returns sub-left cast-width get-requires returns-2)
+    tie.close (tie.spec end-of-requires returns sub-left get-32-requires returns-2 cast-width get-requires returns-3)

@@ -15,31 +15,17 @@ returns : tie.Need-returns
 unfolding varfixSegs
 returns c =
     let b = c .before in
-    (rw (le-leb _ 8 (b .if1 .taken), c .push .ensures .0, b .before .none .ensures .0), search needs, search needs)
+    (rw (le-leb _ 8 (b .before .if1 .taken), c .push .ensures .0, b .none .ensures .0), search needs, search needs)
 
-push-requires-2 : tie.Need-push-requires-2
-push-requires-2 c κs = search needs
+sub-two : tie.Need-sub-two
+sub-two c = search needs
 
-sub-push : tie.Need-sub-push
-sub-push c = search needs
-
-push-requires-3 : tie.Need-push-requires-3
-push-requires-3 c κs = search needs
+two-requires : tie.Need-two-requires
+two-requires c κs = search needs
 
 returns-2 : tie.Need-returns-2
 unfolding varfixSegs
-returns-2 c =
-    let b = c .before .before in
-    (rw (lt-leb _ 8 (b .if1 .left), c .push3 .ensures .0, c .before .push2 .ensures .0, b .before .none .ensures .0), search needs, search needs)
+returns-2 c = (rw (lt-leb _ 8 (c .before .if1 .left), c .two .ensures .0), search needs, search needs)
 
 pub varfix-segs-spec : {M : Type 1} → statement M
-varfix-segs-spec =
-    tie.close
-    (tie.spec
-    none-requires
-    push-requires
-    returns
-    push-requires-2
-    sub-push
-    push-requires-3
-    returns-2)
+varfix-segs-spec = tie.close (tie.spec none-requires push-requires returns sub-two two-requires returns-2)

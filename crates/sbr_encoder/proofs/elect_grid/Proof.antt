@@ -9,8 +9,9 @@ use mir.Syntax.{w32}
 use mir.ValLaws.{toZ-ofZ}
 use Rattle.sbr_time_grid.specs.TimeGrid.{slotCount}
 use Rattle.sbr_bands.specs.Tables.{tablesFit}
-use Rattle.sbr_envelopes.specs.Envelopes.{samplesNeeded, Ready}
-use Rattle.sbr_plan.proofs.Every.{slot-range}
+use Rattle.sbr_envelopes.specs.Envelopes.{samplesNeeded}
+use Rattle.sbr_resolution.specs.Resolution.{Ready}
+use Rattle.sbr_time_grid.proofs.Laws.{slot-range}
 use Rattle.sbr_encoder.proofs.Ways.{no-slots, no-tables, no-samples, passes}
 use Rattle.sbr_encoder.proofs.elect_grid.Statement.{statement}
 use Rattle.sbr_encoder.proofs.elect_grid.Tie as tie

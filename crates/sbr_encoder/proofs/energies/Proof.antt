@@ -3,7 +3,7 @@ use native.Mathlib.Omega.{arith}
 use borrow.Author.Needs.{needs}
 use lib.ListN.{length}
 use Rattle.sbr_bands.proofs.TableLaws.{Tables, tables}
-use Rattle.sbr_plan.proofs.Every.{slot-range}
+use Rattle.sbr_time_grid.proofs.Laws.{slot-range}
 use Rattle.sbr_encoder.proofs.energies.Statement.{statement}
 use Rattle.sbr_encoder.proofs.energies.Tie as tie
 

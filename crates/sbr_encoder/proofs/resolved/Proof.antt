@@ -4,8 +4,8 @@ use Rattle.sbr_grid.specs.Grid.{viewOf}
 use Rattle.sbr_qmf.specs.Qmf.{columns}
 use Rattle.sbr_grid.specs.Refusals.{answered}
 use Rattle.sbr_time_grid.specs.TimeGrid.{Times, timeGrid}
-use Rattle.sbr_envelopes.proofs.EnvelopeRows.{ready-before}
-use Rattle.sbr_envelopes.proofs.EnvelopeTimes.{Timed, derived, derived-count}
+use Rattle.sbr_resolution.proofs.Borders.{ready-before}
+use Rattle.sbr_resolution.proofs.Times.{Timed, derived, derived-count}
 use Rattle.sbr_encoder.proofs.Resolves.{keeps, elects}
 use borrow.Author.Needs.{needs}
 use Rattle.sbr_encoder.proofs.resolved.Statement.{statement}

@@ -5,9 +5,10 @@ use Prim.Native.Nat.{_+_, _-_, _≤_}
 use lib.ListN.{length, getD}
 use Rattle.sbr_qmf.specs.Qmf.{columns}
 use Rattle.sbr_bands.proofs.TableLaws.{tables}
-use Rattle.sbr_envelopes.proofs.EnvelopeSpans.{table-bands}
-use Rattle.sbr_envelopes.proofs.EnvelopeRows.{Filled, filled-none, filled-long, filled-room, filled-more, filled-all, ready-upto}
-use Rattle.sbr_envelopes.specs.Envelopes.{Ready}
+use Rattle.sbr_means.proofs.Spans.{table-bands}
+use Rattle.sbr_envelopes.proofs.Rows.{Filled, filled-none, filled-long, filled-room, filled-more, filled-all}
+use Rattle.sbr_resolution.proofs.Borders.{ready-upto}
+use Rattle.sbr_resolution.specs.Resolution.{Ready}
 use native.Mathlib.Omega.{arith}
 use Rattle.sbr_envelopes.proofs.fill_rows.Statement.{statement}
 use Rattle.sbr_envelopes.proofs.fill_rows.Tie as tie

@@ -4,7 +4,7 @@ use Prim.Native.Nat.{_-_, _≤_}
 use Rattle.sbr_grid.specs.Grid.{first}
 use mathlib.Core.Bool.{false}
 use Rattle.sbr_envelopes.specs.Envelopes.{rowsLength}
-use Rattle.sbr_envelopes.proofs.EnvelopeRows.{length-none, length-more, length-few}
+use Rattle.sbr_envelopes.proofs.Rows.{length-none, length-more, length-few}
 use native.Mathlib.Omega.{arith}
 use Rattle.sbr_envelopes.proofs.rows_length.Statement.{statement}
 use Rattle.sbr_envelopes.proofs.rows_length.Tie as tie

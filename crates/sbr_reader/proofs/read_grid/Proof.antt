@@ -23,7 +23,8 @@ use Rattle.sbr_reader.specs.Parse.{parsedOf, held}
 use Rattle.sbr_reader.specs.Syntax.{sbrGrid}
 use Rattle.sbr_reader.specs.declared.parse.Parsed.{Parsed}
 use Rattle.sbr_reader.specs.Read
-use Rattle.sbr_reader.proofs.ReadLaws.{refused-is, given-is, window-good, read-slots, read-bits, read-record, meets-not, frameOf, meets-so, read-view, read-left, read-given}
+use Rattle.sbr_reader.proofs.ReadLaws.{window-good, read-slots, read-bits, read-record, meets-not, frameOf, meets-so, read-view, read-left, read-given}
+use Rattle.sbr_grid.proofs.Outcomes.{refused-is, given-is}
 use Rattle.sbr_reader.proofs.read_grid.Statement.{statement}
 use Rattle.sbr_reader.proofs.read_grid.Tie as tie
 use mir.Val.{toZ, ofZ}

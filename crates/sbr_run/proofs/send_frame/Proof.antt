@@ -3,32 +3,30 @@ use mathlib.Core.Path.{_≡_, refl, sym, ap, _∙_}
 use native.Mathlib.Omega.{arith}
 use borrow.Author.Needs.{needs}
 use mir.Syntax.{w32}
-use mir.Val.{toZ, ofZ}
-use mir.ValLaws.{toZ-pos, toZ-ofZ}
-use lib.IntN.{ℤ, pos}
+use mir.ValLaws.{toZ-ofZ}
+use lib.IntN.{pos}
 use Rattle.sbr_grid.specs.Refusals.{Outcome}
 use Rattle.sbr_grid.specs.Grid.{Grid}
-use Rattle.sbr_time_grid.specs.declared.Derived.{Derived}
 use Rattle.sbr_time_grid.specs.TimeGrid.{timeGrid, derivedOf}
 use Rattle.sbr_writer.specs.Write.{Wrote, writeGrid, writtenOf, bytesAfter}
-use Rattle.sbr_reader.proofs.ReadLaws.{refused-is}
+use Rattle.sbr_grid.proofs.Outcomes.{refused-is}
 use Rattle.sbr_encoder.specs.declared.Election.{Election}
 use Rattle.sbr_encoder.specs.Election.{electionOf}
 use Rattle.sbr_run.specs.Run.{Turn}
 use Rattle.sbr_run.specs.Forms.{turnFrom}
-use Rattle.sbr_run.proofs.TurnWays.{electing, turned, elect-refuses, time-refuses, write-refuses, sends, Chosen, chosen, Timed, timed, wrote-to, wrote-not, sent-is}
+use Rattle.sbr_run.proofs.TurnWays.{electing, turned, elect-refuses, write-refuses, sends, Chosen, chosen, Timed, timed, wrote-to, wrote-not, sent-is}
 use Rattle.sbr_run.proofs.send_frame.Statement.{statement}
 use Rattle.sbr_run.proofs.send_frame.Tie as tie
 
--- the places before each call: that where the election was told to answer, that where the time grid was, and the start
+-- the places before each call: that where the election was told to answer, and the start
 abbrev start : tie.After-elect-grid → tie.Start
 start c = c .before .before .before .before .before .before .before
 
 abbrev told : tie.After-derive-time-grid → tie.After-enum-told
 told c = c .before .before
 
-abbrev told2 : tie.After-write-grid → tie.After-enum-told2
-told2 c = c .before .before .before
+abbrev derivedAt : tie.After-write-grid → tie.After-derive-time-grid
+derivedAt c = c .before .before .before
 
 -- the turn
 abbrev turn-at : tie.After-elect-grid → Turn
@@ -43,28 +41,23 @@ elected c = rw (toZ-ofZ w32 (start c .args .place .carried .border) (search need
 got : (c : tie.After-enum-told) → Chosen (turn-at (c .before .before)) (c .before .before .elect-grid .result)
 got c = chosen _ _ (elected (c .before .before)) (c .enum-told .given .1)
 
--- what was derived
-derived : (c : tie.After-derive-time-grid) → let t = turn-at (told c .before .before) in
-    c .derive-time-grid .result ≡ derivedOf (timeGrid (t .timeSlots) (got (told c) .elected .grid))
-derived c =
-    c .derive-time-grid .ensures
-    ∙ ap (λ (g : Grid). derivedOf (timeGrid (turn-at (told c .before .before) .timeSlots) g)) (got (told c) .view)
-
-time : (c : tie.After-enum-told2) → let d = c .before .before in
-    Timed (turn-at (told d .before .before) .timeSlots) (got (told d) .elected .grid) (d .derive-time-grid .result)
-time c = timed _ _ _ (derived (c .before .before)) (c .enum-told2 .given .1)
+-- the time grid of what was elected
+time : (c : tie.After-derive-time-grid) → let g = got (told c) in Timed (turn-at (told c .before .before) .timeSlots) (g .elected .grid) (c .derive-time-grid .result)
+time c =
+    let g = got (told c) in
+    timed _ _ _ (g .time .0) (g .time .1)
+    (c .derive-time-grid .ensures ∙ ap (λ (x : Grid). derivedOf (timeGrid (turn-at (told c .before .before) .timeSlots) x)) (g .view))
 
 -- what was written
 abbrev writing : tie.After-write-grid → Outcome Wrote
 writing c =
-    let d = told2 c .before .before in
-    let t = turn-at (told d .before .before) in
-    writeGrid (t .bytes) (t .position) (got (told d) .elected .grid)
+    let d = told (derivedAt c) in
+    let t = turn-at (d .before .before) in
+    writeGrid (t .bytes) (t .position) (got d .elected .grid)
 
-written : (c : tie.After-write-grid) → let d = told2 c .before .before in
-    let l = turn-at (told d .before .before) .bytes in
+written : (c : tie.After-write-grid) → let l = turn-at (told (derivedAt c) .before .before) .bytes in
     (c .write-grid .result ≡ writtenOf (writing c)) × (c .write-grid .last .0 ≡ bytesAfter l (writing c))
-written c = let d = told2 c .before .before in rw (got (told d) .view) at (c .write-grid .ensures)
+written c = rw (got (told (derivedAt c)) .view) at (c .write-grid .ensures)
 
 elect-grid-requires : tie.Need-elect-grid-requires
 elect-grid-requires c κs = search needs
@@ -88,69 +81,53 @@ enum-told c = search needs
 derive-time-grid-requires : tie.Need-derive-time-grid-requires
 derive-time-grid-requires c κs = search needs
 
-enum-known-timed : tie.Need-enum-known-timed
-enum-known-timed c = search needs
-
-refusal-requires-2 : tie.Need-refusal-requires-2
-refusal-requires-2 c κs = search needs
-
-returns-2 : tie.Need-returns-2
-returns-2 c =
-    let d = c .before .before .before .before in
-    let g = got (told d) in
-    let m = c .before .before .timed .given in
-    let r = time-refuses (turn-at (told d .before .before)) (g .elected) (g .is) (m .0 .0) (refused-is _ (m .0 .0) (ap (λ (x : Derived). x .answer) (sym (derived d)) ∙ m .1)) in
-    rw r (c .refusal2 .ensures, refl)
-
-enum-told-2 : tie.Need-enum-told-2
-enum-told-2 c = search needs
-
 write-grid-requires : tie.Need-write-grid-requires
 write-grid-requires c κs = search needs
 
 enum-known-position : tie.Need-enum-known-position
 enum-known-position c = search needs
 
-last-border-requires : tie.Need-last-border-requires
-last-border-requires c κs = let l = time (told2 (c .before .before .before .before .before)) .last in (l .few, omega (arith, l .is, l .small))
-
-enum-known-why : tie.Need-enum-known-why
-enum-known-why c = search needs
-
-refusal-requires-3 : tie.Need-refusal-requires-3
-refusal-requires-3 c κs = search needs
+sent-requires : tie.Need-sent-requires
+sent-requires c κs = let l = time (derivedAt (c .before .before .before .before .before)) .last in (l .few, omega (arith, l .is, l .small))
 
 same-length : tie.Need-same-length
 same-length c = search needs
 
-returns-3 : tie.Need-returns-3
-returns-3 c =
+returns-2 : tie.Need-returns-2
+returns-2 c =
     let w = c .before .before .before .before .before .before in
-    let d = told2 w .before .before in
-    let g = got (told d) in
-    let m = time (told2 w) in
+    let d = told (derivedAt w) in
+    let g = got d in
+    let m = time (derivedAt w) in
     let p = c .before .before .position .given in
     let o = wrote-to (writing w) (p .0 .0) (sym (written w .0) ∙ p .1) in
-    let r = sends (turn-at (told d .before .before)) (g .elected) (g .is) (m .time) (m .is) (o .0) (o .1) in
+    let r = sends (turn-at (d .before .before)) (g .elected) (g .is) (m .time) (m .is) (o .0) (o .1) in
     rw r (
-      sent-is (start (told d .before .before) .args .place) (turned (g .elected) (m .time) (o .0)) _ _ _ _ _ (ap (λ (x : Election). x .grid) (g .whole)) (m .whole) (ap (λ (x : Election). x .transient) (g .whole))
-          (ap (λ (z : ℤ). toZ w32 (ofZ w32 z)) (c .last-border .ensures) ∙ toZ-pos w32 _ (omega (arith, m .last .is, m .last .small)) ∙ ap pos (m .last .is)) (o .2),
+      c .sent .ensures
+          ∙ sent-is (start (d .before .before) .args .place) (turned (g .elected) (m .time) (o .0)) _ _ _ _ _ (ap (λ (x : Election). x .grid) (g .whole)) (m .whole) (ap (λ (x : Election). x .transient) (g .whole))
+          (ap pos (m .last .is)) (o .2),
       written w .1 ∙ ap (bytesAfter _) (o .1),
     )
+
+enum-known-why : tie.Need-enum-known-why
+enum-known-why c = search needs
+
+refusal-requires-2 : tie.Need-refusal-requires-2
+refusal-requires-2 c κs = search needs
 
 same-length-2 : tie.Need-same-length-2
 same-length-2 c = search needs
 
-returns-4 : tie.Need-returns-4
-returns-4 c =
+returns-3 : tie.Need-returns-3
+returns-3 c =
     let w = c .before .before .before .before .before .before in
-    let d = told2 w .before .before in
-    let g = got (told d) in
-    let m = time (told2 w) in
+    let d = told (derivedAt w) in
+    let g = got d in
+    let m = time (derivedAt w) in
     let p = c .before .before .why .given in
     let o = wrote-not (writing w) (p .0 .0) (sym (written w .0) ∙ p .1) in
-    let r = write-refuses (turn-at (told d .before .before)) (g .elected) (g .is) (m .time) (m .is) (p .0 .0) o in
-    rw r (c .refusal3 .ensures, written w .1 ∙ ap (bytesAfter _) o)
+    let r = write-refuses (turn-at (d .before .before)) (g .elected) (g .is) (m .time) (m .is) (p .0 .0) o in
+    rw r (c .refusal2 .ensures, written w .1 ∙ ap (bytesAfter _) o)
 
 pub send-frame-spec : {M : Type 1} → statement M
 send-frame-spec =
@@ -162,16 +139,12 @@ send-frame-spec =
     returns
     enum-told
     derive-time-grid-requires
-    enum-known-timed
-    refusal-requires-2
-    returns-2
-    enum-told-2
     write-grid-requires
     enum-known-position
-    last-border-requires
-    enum-known-why
-    refusal-requires-3
+    sent-requires
     same-length
-    returns-3
+    returns-2
+    enum-known-why
+    refusal-requires-2
     same-length-2
-    returns-4)
+    returns-3)

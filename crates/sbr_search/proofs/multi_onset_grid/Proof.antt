@@ -4,7 +4,8 @@ use native.Mathlib.Omega.{arith}
 use borrow.Author.Needs.{needs}
 use Rattle.sbr_search.specs.Search.{planned, multiOnsetGrid}
 use Rattle.sbr_search.specs.Forms.{onsetList, multiOf}
-use Rattle.sbr_search.specs.Forms.{wantedList, InFrame, bestOf}
+use Rattle.sbr_search.specs.Forms.{bestOf}
+use Rattle.sbr_borders.specs.Forms.{wantedList, InFrame}
 use Rattle.sbr_search.proofs.SearchFrames.{bounds, first-onset}
 use Rattle.sbr_search.proofs.SearchCases.{bare-framed, isolated-framed, wins-any, multi-by}
 use Rattle.sbr_search.proofs.multi_onset_grid.Statement.{statement}

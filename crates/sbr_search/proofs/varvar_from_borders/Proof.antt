@@ -6,7 +6,8 @@ use borrow.Author.Needs.{needs}
 use Rattle.sbr_grid.specs.Grid.{first}
 use Rattle.sbr_time_grid.proofs.Borders.{zeros-at}
 use Rattle.sbr_search.specs.Search.{tryFrom}
-use Rattle.sbr_search.specs.Forms.{wantedList, Turning, bestOf, Within}
+use Rattle.sbr_search.specs.Forms.{bestOf, Within}
+use Rattle.sbr_borders.specs.Forms.{wantedList, Turning}
 use Rattle.sbr_search.proofs.SearchEnds.{search-begin, search-next, search-last, search-end, turn-next, turn-last}
 use Rattle.sbr_search.proofs.varvar_from_borders.Statement.{statement}
 use Rattle.sbr_search.proofs.varvar_from_borders.Tie as tie

@@ -55,14 +55,11 @@ same-requires c κs = search needs
 noise-of-requires : tie.Need-noise-of-requires
 noise-of-requires c κs = search needs
 
-empty-requires : tie.Need-empty-requires
-empty-requires c κs = search needs
-
 returns-4 : tie.Need-returns-4
 returns-4 c =
-    let t = c .before .before .before .before .before .before .before .before .before .before in
+    let t = c .before .before .before .before .before .before .before in
     let a = t .before .before .before .before .args .body in
-    rw (c .before .before .empty .ensures, c .before .before .before .noise-of .ensures, c .before .before .before .before .same .ensures, c .before .before .before .before .before .bit .ensures, count t)
+    rw (c .noise-of .ensures, c .before .same .ensures, c .before .before .bit .ensures, count t)
     (fix-fix-given (a .width) (a .width - 2) (a .width - 3) (a .value) (omega arith) (omega arith) (omega (arith, count t)))
 
 pub fix-fix-spec : {M : Type 1} → statement M
@@ -81,5 +78,4 @@ fix-fix-spec =
     bit-requires
     same-requires
     noise-of-requires
-    empty-requires
     returns-4)

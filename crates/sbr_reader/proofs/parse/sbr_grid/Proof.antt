@@ -37,11 +37,17 @@ enum-told c = search needs
 fix-fix-requires : tie.Need-fix-fix-requires
 fix-fix-requires c κs = search needs
 
+returns-2 : tie.Need-returns-2
+returns-2 c = rw (body (c .before .before .before), c .before .enum-told .given .1) (c .fix-fix .ensures)
+
 enum-told-2 : tie.Need-enum-told-2
 enum-told-2 c = search needs
 
 fix-var-requires : tie.Need-fix-var-requires
 fix-var-requires c κs = search needs
+
+returns-3 : tie.Need-returns-3
+returns-3 c = rw (body (c .before .before .before), c .before .enum-told2 .given .1) (c .fix-var .ensures)
 
 enum-told-3 : tie.Need-enum-told-3
 enum-told-3 c = search needs
@@ -49,20 +55,14 @@ enum-told-3 c = search needs
 var-fix-requires : tie.Need-var-fix-requires
 var-fix-requires c κs = search needs
 
+returns-4 : tie.Need-returns-4
+returns-4 c = rw (body (c .before .before .before), c .before .enum-told3 .given .1) (c .var-fix .ensures)
+
 enum-told-4 : tie.Need-enum-told-4
 enum-told-4 c = search needs
 
 var-var-requires : tie.Need-var-var-requires
 var-var-requires c κs = search needs
-
-returns-2 : tie.Need-returns-2
-returns-2 c = rw (body (c .before .before .before), c .before .enum-told .given .1) (c .fix-fix .ensures)
-
-returns-3 : tie.Need-returns-3
-returns-3 c = rw (body (c .before .before .before), c .before .enum-told2 .given .1) (c .fix-var .ensures)
-
-returns-4 : tie.Need-returns-4
-returns-4 c = rw (body (c .before .before .before), c .before .enum-told3 .given .1) (c .var-fix .ensures)
 
 returns-5 : tie.Need-returns-5
 returns-5 c = rw (body (c .before .before .before), c .before .enum-told4 .given .1) (c .var-var .ensures)
@@ -78,13 +78,13 @@ sbr-grid-spec =
     from-bits-requires
     enum-told
     fix-fix-requires
+    returns-2
     enum-told-2
     fix-var-requires
+    returns-3
     enum-told-3
     var-fix-requires
+    returns-4
     enum-told-4
     var-var-requires
-    returns-2
-    returns-3
-    returns-4
     returns-5)

@@ -1,0 +1,288 @@
+// What the programs that replay cases read from standard input and print: numbers, tables, samples, records. Numbers have their low byte
+// first; past the end of the input every byte is 0.
+use libc::STDIN_FILENO;
+use libc::STDOUT_FILENO;
+use sbr_grid::FrameClass;
+use sbr_grid::Refusal;
+use sbr_grid::SbrGrid;
+use sbr_time_grid::TimeGrid;
+ghost use mathlib.Core.Path.{_≡_};
+ghost use Prim.Native.Nat.{_≤_};
+ghost use lib.ListN.{length};
+ghost use Rattle.case_io.specs.Counts.{Counts};
+
+// Most entries of a table, and most samples, that a case hands in.
+pub const MAX_TABLE: usize = 255;
+
+pub const MAX_SAMPLES: usize = 6500;
+
+// Samples that are all 0.0. Only the length is said, which lending the array needs.
+pub fn silence() -> [f64; MAX_SAMPLES]
+    ensures { λ r. ⌜ 6500 ≡ length r ⌝ }
+{
+    [0.0; MAX_SAMPLES]
+}
+
+// The next byte of the input; 0 past its end.
+pub fn next_byte() -> u8 {
+    let mut byte = [0u8; 1];
+    io::read_full(STDIN_FILENO, &mut byte);
+    byte[0]
+}
+
+// The number of the next `size` bytes, low byte first; at most 8.
+pub fn next_number(size: usize) -> u64 {
+    let mut value = 0u64;
+    for i in 0..8 {
+        let mut byte = 0u8;
+        if i < size {
+            byte = next_byte();
+        }
+        value = (value >> 8) | ((byte as u64) << 56);
+    }
+    value
+}
+
+// The number of the next two bytes, or `most` where it is larger.
+pub fn next_count(most: usize) -> usize
+    ensures { λ r. ⌜ r ≤ most ⌝ }
+{
+    let n = next_number(2) as usize;
+    if n < most { n } else { most }
+}
+
+// The signed number of the next four bytes.
+pub fn next_signed() -> i32 {
+    let a = next_byte() as i32;
+    let b = next_byte() as i32;
+    let c = next_byte() as i32;
+    let d = next_byte() as i32;
+    a | (b << 8) | (c << 16) | (d << 24)
+}
+
+pub fn next_flag() -> bool {
+    next_byte() != 0
+}
+
+// The double of a bit pattern.
+fn double(bits: u64) -> f64 {
+    if bits % 0x8000000000000000 <= 0x7FF0000000000000 {
+        return f64::from_bits(bits);
+    }
+    0.0 / 0.0
+}
+
+// Fills the start of a table, and answers how many entries it has.
+pub fn read_table(table: &mut [u8]) -> usize
+    requires { ⌜ 255 ≤ length (now table) ⌝ }
+    ensures { λ r. ⌜ Counts r (now (table .exit)) ⌝ }
+{
+    let n = next_byte() as usize;
+    for i in 0..n {
+        table[i] = next_byte();
+    }
+    n
+}
+
+// Sets the samples that are listed, and answers how many are handed in.
+pub fn read_samples(x: &mut [f64]) -> usize
+    requires { ⌜ 6500 ≤ length (now x) ⌝ }
+    ensures { λ r. ⌜ Counts r (now (x .exit)) ⌝ }
+{
+    let count = next_count(MAX_SAMPLES);
+    let listed = next_count(MAX_SAMPLES);
+    for _ in 0..listed {
+        let i = next_count(MAX_SAMPLES - 1);
+        x[i] = double(next_number(8));
+    }
+    count
+}
+
+fn read_flags() -> [bool; SbrGrid::MAX_NUM_ENV] {
+    let mut flags = [false; SbrGrid::MAX_NUM_ENV];
+    for i in 0..SbrGrid::MAX_NUM_ENV {
+        flags[i] = next_flag();
+    }
+    flags
+}
+
+fn read_lengths() -> [u8; SbrGrid::MAX_REL_BORD] {
+    let mut lengths = [0u8; SbrGrid::MAX_REL_BORD];
+    io::read_full(STDIN_FILENO, &mut lengths);
+    lengths
+}
+
+pub fn read_grid() -> SbrGrid {
+    let frame_class = FrameClass::from_bits(next_byte() as u32);
+    let num_env = next_byte() as usize;
+    let num_noise = next_byte() as usize;
+    let freq_res = read_flags();
+    let var_bord_0 = next_byte();
+    let var_bord_1 = next_byte();
+    let num_rel_0 = next_byte() as usize;
+    let rel_bord_0 = read_lengths();
+    let num_rel_1 = next_byte() as usize;
+    let rel_bord_1 = read_lengths();
+    let pointer = next_byte();
+    SbrGrid {
+        frame_class,
+        num_env,
+        num_noise,
+        freq_res,
+        var_bord_0,
+        var_bord_1,
+        rel_bord_0,
+        num_rel_0,
+        rel_bord_1,
+        num_rel_1,
+        pointer,
+        amp_res_override: false,
+    }
+}
+
+pub fn print(text: &[u8]) {
+    io::write_all(STDOUT_FILENO, text);
+}
+
+// A name and a number.
+pub fn print_field(name: &[u8], value: u64) {
+    print(name);
+    io::print_decimal(STDOUT_FILENO, value);
+}
+
+pub fn print_flag(name: &[u8], flag: bool) {
+    print(name);
+    if flag {
+        print(b"1");
+    } else {
+        print(b"0");
+    }
+}
+
+pub fn print_class(class: FrameClass) {
+    match class {
+        FrameClass::FixFix => print(b"FixFix"),
+        FrameClass::FixVar => print(b"FixVar"),
+        FrameClass::VarFix => print(b"VarFix"),
+        FrameClass::VarVar => print(b"VarVar"),
+    }
+}
+
+// A letter for each of the envelopes.
+pub fn print_resolutions(freq_res: [bool; SbrGrid::MAX_NUM_ENV], num_env: usize) {
+    for i in 0..SbrGrid::MAX_NUM_ENV {
+        if i < num_env {
+            if freq_res[i] {
+                print(b"H");
+            } else {
+                print(b"L");
+            }
+        }
+    }
+}
+
+fn wide(byte: u8) -> u64 {
+    byte as u64
+}
+
+// A name and the first `count` lengths.
+fn print_lengths(name: &[u8], lengths: [u8; SbrGrid::MAX_REL_BORD], count: usize) {
+    print(name);
+    for i in 0..SbrGrid::MAX_REL_BORD {
+        if i < count {
+            print_field(b" ", wide(lengths[i]));
+        }
+    }
+}
+
+pub fn print_grid(grid: SbrGrid) {
+    let class = grid.frame_class;
+    let freq_res = grid.freq_res;
+    let rel_bord_0 = grid.rel_bord_0;
+    let rel_bord_1 = grid.rel_bord_1;
+    print_class(class);
+    print(b" ");
+    print_resolutions(freq_res, grid.num_env);
+    print_field(b" b0 ", grid.var_bord_0 as u64);
+    print_field(b" b1 ", grid.var_bord_1 as u64);
+    print_lengths(b" rel0", rel_bord_0, grid.num_rel_0);
+    print_lengths(b" rel1", rel_bord_1, grid.num_rel_1);
+    print_field(b" p ", grid.pointer as u64);
+    print_field(b" noise ", grid.num_noise as u64);
+    print_flag(b" amp ", grid.amp_res_override);
+}
+
+pub fn print_refusal(why: Refusal) {
+    print_field(b"refused ", why.number() as u64);
+}
+
+// The bits of a double; a NaN has none of its own.
+pub fn print_double(x: f64) {
+    print(b" ");
+    if x == x {
+        io::print_hex(STDOUT_FILENO, f64::to_bits(x), 16);
+    } else {
+        print(b"nan");
+    }
+}
+
+// A number that is not below 0; 0 for one that is.
+pub fn whole(n: i32) -> u64 {
+    if n < 0 {
+        return 0;
+    }
+    n as u64
+}
+
+// A border after a blank.
+fn print_border(border: u32) {
+    print_field(b" ", border as u64);
+}
+
+// The first `count` of a frame's borders.
+fn print_borders(t_e: [u32; TimeGrid::MAX_BORDERS], count: usize) {
+    for i in 0..TimeGrid::MAX_BORDERS {
+        if i < count {
+            print_border(t_e[i]);
+        }
+    }
+}
+
+// The first `count` of its noise borders.
+fn print_noise(t_q: [u32; TimeGrid::MAX_NOISE_BORDERS], count: usize) {
+    for i in 0..TimeGrid::MAX_NOISE_BORDERS {
+        if i < count {
+            print_border(t_q[i]);
+        }
+    }
+}
+
+// The marked envelope; -1 for none.
+fn print_mark(mark: i32) {
+    if mark < 0 {
+        print(b" / -1");
+    } else {
+        print_field(b" / ", whole(mark));
+    }
+}
+
+// A time grid: borders, noise borders, mark.
+pub fn print_times(time: TimeGrid) {
+    let t_e = time.t_e;
+    let t_q = time.t_q;
+    print_borders(t_e, time.num_env % 8 + 1);
+    print(b" /");
+    print_noise(t_q, time.num_noise % 8 + 1);
+    print_mark(time.l_a);
+}
+
+fn print_byte(byte: u8) {
+    io::print_hex(STDOUT_FILENO, byte as u64, 2);
+}
+
+// Every byte of a range.
+pub fn print_bytes(bytes: &[u8]) {
+    for i in 0..bytes.len() {
+        print_byte(bytes[i]);
+    }
+}

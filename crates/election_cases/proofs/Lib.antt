@@ -1,2 +1,0 @@
-pub mod Nans
-pub mod Prefix

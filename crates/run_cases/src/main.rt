@@ -1,0 +1,351 @@
+// Drives runs of a transmitter and of a receiver through send_frame and receive_frame, and checks what is read against what was sent. The
+// turns and the readings come from standard input; tools/run_cases.py says what they are.
+use libc::STDIN_FILENO;
+use libc::STDOUT_FILENO;
+use sbr_envelopes::Estimated;
+use sbr_grid::Answer;
+use sbr_grid::SbrGrid;
+use sbr_reader::Carried;
+use sbr_run::Place;
+use sbr_run::Receiving;
+use sbr_run::Sending;
+use sbr_time_grid::TimeGrid;
+ghost use mathlib.Core.Path.{_≡_};
+ghost use Prim.Native.Nat.{_≤_};
+ghost use lib.ListN.{length};
+
+// Most bytes that a run writes into, frames that it sends, and numbers of a frame's rows.
+const MAX_BYTES: usize = 2000;
+
+const MAX_FRAMES: usize = 500;
+
+const MAX_ROOM: usize = 400;
+
+// Where a run stands after a turn or a reading, and how many frames it has sent or read.
+struct Stepped {
+    place: Place,
+    frames: usize,
+}
+
+// The transmitter and the receiver of a run.
+struct Ends {
+    sender: Stepped,
+    receiver: Stepped,
+}
+
+// Borders in a number, five bits for each.
+fn borders_number(t_e: [u32; TimeGrid::MAX_BORDERS]) -> u64 {
+    let mut number = 0u64;
+    for i in 0..TimeGrid::MAX_BORDERS {
+        number = (number << 5) | (t_e[i] % 32) as u64;
+    }
+    number
+}
+
+// Noise borders in a number, five bits for each.
+fn noise_number(t_q: [u32; TimeGrid::MAX_NOISE_BORDERS]) -> u64 {
+    let mut number = 0u64;
+    for i in 0..TimeGrid::MAX_NOISE_BORDERS {
+        number = (number << 5) | (t_q[i] % 32) as u64;
+    }
+    number
+}
+
+// Resolutions in a number, a bit for each.
+fn resolutions_number(freq_res: [bool; SbrGrid::MAX_NUM_ENV]) -> u64 {
+    let mut number = 0u64;
+    for i in 0..SbrGrid::MAX_NUM_ENV {
+        number = (number << 1) | freq_res[i] as u64;
+    }
+    number
+}
+
+// The marked envelope from 1 on; 0 for none.
+fn mark_number(mark: i32) -> u64 {
+    if mark < 0 {
+        return 0;
+    }
+    case_io::whole(mark) % 7 + 1
+}
+
+// A time grid in a number: count of envelopes, borders, noise borders and mark.
+fn times_number(time: TimeGrid) -> u64 {
+    let t_e = time.t_e;
+    let t_q = time.t_q;
+    let count = (time.num_env % 8) as u64;
+    let borders = (count << 30) | borders_number(t_e);
+    (((borders << 15) | noise_number(t_q)) << 3) | mark_number(time.l_a)
+}
+
+// A frame in a number: class, resolutions and time grid. No two frames that are sent or read have the same, as their borders are below 32.
+fn frame_number(grid: SbrGrid, time: TimeGrid) -> u64 {
+    let class = grid.frame_class;
+    let freq_res = grid.freq_res;
+    let form = ((class.to_bits() as u64) << 5) | resolutions_number(freq_res);
+    (form << 51) | times_number(time)
+}
+
+// How many numbers the rows of a frame hold; MAX_ROOM + 1 where the energies are refused.
+fn rows(x: &[f64], high: &[u8], low: &[u8], grid: SbrGrid, num_time_slots: usize) -> usize {
+    let mut out = [0.0; MAX_ROOM];
+    match sbr_envelopes::estimate_envelopes(x, high, low, grid, num_time_slots, &mut out) {
+        Estimated::Count(count) => count,
+        Estimated::Refused(_) => MAX_ROOM + 1,
+    }
+}
+
+fn print_frame(grid: SbrGrid, time: TimeGrid, rows: usize) {
+    let class = grid.frame_class;
+    let freq_res = grid.freq_res;
+    case_io::print_class(class);
+    case_io::print_times(time);
+    case_io::print(b" / ");
+    case_io::print_resolutions(freq_res, grid.num_env);
+    case_io::print_field(b" rows ", rows as u64);
+}
+
+fn print_border(border: i32) {
+    if border < 0 {
+        case_io::print(b" border below 0");
+    } else {
+        case_io::print_field(b" border ", case_io::whole(border));
+    }
+}
+
+fn print_place(place: Place) {
+    let carried = place.carried;
+    case_io::print_field(b" at ", place.position as u64);
+    print_border(carried.border);
+}
+
+// Keeps the number of a frame that is sent, and answers how many are.
+fn keep(number: u64, numbers: &mut [u64; MAX_FRAMES], frames: usize) -> usize {
+    if MAX_FRAMES <= frames {
+        return frames;
+    }
+    numbers[frames] = number;
+    frames + 1
+}
+
+// Prints a frame that is sent, and keeps its number.
+fn sent(
+    x: &[f64],
+    high: &[u8],
+    low: &[u8],
+    num_time_slots: usize,
+    sending: Sending,
+    numbers: &mut [u64; MAX_FRAMES],
+    frames: usize,
+) -> Stepped {
+    let grid = sending.grid;
+    let time = sending.time;
+    let place = sending.place;
+    let count = rows(x, high, low, grid, num_time_slots);
+    case_io::print(b"sent ");
+    print_frame(grid, time, count);
+    case_io::print_flag(b" transient ", sending.transient);
+    print_place(place);
+    let frames = keep(frame_number(grid, time), numbers, frames);
+    Stepped { place, frames }
+}
+
+// Reads the samples of a turn, makes it and prints it; keeps the number of the frame that it sends.
+fn turn(
+    high: &[u8],
+    low: &[u8],
+    bytes: &mut [u8],
+    numbers: &mut [u64; MAX_FRAMES],
+    from: Stepped,
+) -> Stepped {
+    let num_time_slots = case_io::next_number(8) as usize;
+    let variable = case_io::next_flag();
+    let mut x = case_io::silence();
+    let samples = case_io::read_samples(&mut x);
+    let start = from.place;
+    let frames = from.frames;
+    let sending = sbr_run::send_frame(
+        &x[..samples],
+        high,
+        low,
+        variable,
+        num_time_slots,
+        bytes,
+        start,
+    );
+    let answer = sending.answer;
+    match answer {
+        Answer::Given => sent(&x, high, low, num_time_slots, sending, numbers, frames),
+        Answer::Refused(why) => {
+            let place = sending.place;
+            case_io::print(b"turn ");
+            case_io::print_refusal(why);
+            Stepped { place, frames }
+        }
+    }
+}
+
+// Prints whether the frame that is read is the one that was sent, and answers how many are read.
+fn compare(number: u64, numbers: &[u64; MAX_FRAMES], sent: usize, frames: usize) -> usize {
+    if MAX_FRAMES <= frames {
+        return frames;
+    }
+    if frames < sent && numbers[frames] == number {
+        case_io::print(b" as sent");
+    } else {
+        case_io::print(b" NOT AS SENT");
+    }
+    frames + 1
+}
+
+// Prints a frame that is read, and whether it is the one that was sent.
+fn received(
+    high: &[u8],
+    low: &[u8],
+    num_time_slots: usize,
+    receiving: Receiving,
+    numbers: &[u64; MAX_FRAMES],
+    sent: usize,
+    frames: usize,
+) -> Stepped {
+    let grid = receiving.grid;
+    let time = receiving.time;
+    let place = receiving.place;
+    let x = case_io::silence();
+    let count = rows(&x, high, low, grid, num_time_slots);
+    case_io::print(b"read ");
+    print_frame(grid, time, count);
+    print_place(place);
+    let frames = compare(frame_number(grid, time), numbers, sent, frames);
+    Stepped { place, frames }
+}
+
+// Makes a reading and prints it, and whether it gives the frame that was sent.
+fn reading(
+    high: &[u8],
+    low: &[u8],
+    bytes: &[u8],
+    numbers: &[u64; MAX_FRAMES],
+    sent: usize,
+    from: Stepped,
+) -> Stepped {
+    let num_time_slots = case_io::next_number(8) as usize;
+    let start = from.place;
+    let frames = from.frames;
+    let receiving = sbr_run::receive_frame(bytes, num_time_slots, start);
+    let answer = receiving.answer;
+    match answer {
+        Answer::Given => received(high, low, num_time_slots, receiving, numbers, sent, frames),
+        Answer::Refused(why) => {
+            let place = receiving.place;
+            case_io::print(b"reading ");
+            case_io::print_refusal(why);
+            Stepped { place, frames }
+        }
+    }
+}
+
+// A turn or a reading, and its line.
+fn step(
+    high: &[u8],
+    low: &[u8],
+    bytes: &mut [u8],
+    numbers: &mut [u64; MAX_FRAMES],
+    ends: Ends,
+) -> Ends
+    requires { ⌜ 2000 ≤ length (now bytes) ⌝ }
+{
+    let kind = case_io::next_byte();
+    let lent = case_io::next_count(MAX_BYTES);
+    let sender = ends.sender;
+    let receiver = ends.receiver;
+    if kind == 1 {
+        let sender = turn(high, low, &mut bytes[..lent], numbers, sender);
+        case_io::print(b"\n");
+        return Ends { sender, receiver };
+    }
+    let receiver = reading(high, low, &bytes[..lent], numbers, sender.frames, receiver);
+    case_io::print(b"\n");
+    Ends { sender, receiver }
+}
+
+// Every turn and reading of a run.
+fn steps(count: usize, high: &[u8], low: &[u8], bytes: &mut [u8], start: Place) -> Ends
+    requires { ⌜ 2000 ≤ length (now bytes) ⌝ }
+{
+    let mut numbers = [0u64; MAX_FRAMES];
+    let first = Stepped {
+        place: start,
+        frames: 0,
+    };
+    let mut ends = Ends {
+        sender: first,
+        receiver: first,
+    };
+    for _ in 0..count {
+        ends = step(high, low, bytes, &mut numbers, ends);
+    }
+    ends
+}
+
+// A range of the same byte. Only the length is said, which lending the array needs.
+fn filled(byte: u8) -> [u8; MAX_BYTES]
+    ensures { λ r. ⌜ 2000 ≡ length r ⌝ }
+{
+    [byte; MAX_BYTES]
+}
+
+// Makes the turns and readings of a run, and prints how many frames it sent and read, and every byte of its range.
+fn print_steps(count: usize, high: &[u8], low: &[u8], start: Place) {
+    let mut bytes = filled(case_io::next_byte());
+    let ends = steps(count, high, low, &mut bytes, start);
+    let sender = ends.sender;
+    let receiver = ends.receiver;
+    case_io::print_field(b"run: ", sender.frames as u64);
+    case_io::print_field(b" sent, ", receiver.frames as u64);
+    case_io::print(b" read, bytes ");
+    case_io::print_bytes(&bytes);
+    case_io::print(b"\n");
+}
+
+// The number of two bytes.
+fn number_of(low: u8, high: u8) -> usize {
+    low as usize + 256 * high as usize
+}
+
+// Reads where a run starts.
+fn next_place() -> Place {
+    let border = case_io::next_signed();
+    let position = case_io::next_number(8) as usize;
+    Place {
+        carried: Carried { border },
+        position,
+    }
+}
+
+// One run; false at the end of the input.
+fn print_run() -> bool {
+    let mut count = [0u8; 2];
+    if io::read_full(STDIN_FILENO, &mut count) < 2 {
+        return false;
+    }
+    let start = next_place();
+    let mut high = [0u8; case_io::MAX_TABLE];
+    let high_len = case_io::read_table(&mut high);
+    let mut low = [0u8; case_io::MAX_TABLE];
+    let low_len = case_io::read_table(&mut low);
+    print_steps(
+        number_of(count[0], count[1]),
+        &high[..high_len],
+        &low[..low_len],
+        start,
+    );
+    true
+}
+
+// Every run. Nothing says that an input ends, so the turns count down from a number that no run uses up.
+fn main() {
+    let mut turns = u64::MAX;
+    while turns > 0 && print_run() {
+        turns -= 1;
+    }
+}

@@ -1,0 +1,4 @@
+pub mod BorderLists
+pub mod BorderShifts
+pub mod BorderWalks
+pub mod BorderFits

@@ -1,0 +1,4 @@
+pub mod Computed
+pub mod Cases
+pub mod Every
+pub mod Best

@@ -1,0 +1,4 @@
+pub mod Borders
+pub mod Spread
+pub mod Inside
+pub mod Times

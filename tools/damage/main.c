@@ -1,0 +1,262 @@
+/*
+ * Random, truncated and damaged inputs for the reader and the writer, in memory that is guarded on both sides of each range: a page that
+ * can't be touched stands directly behind the range, or directly before it. What a call may not touch is compared after it.
+ *
+ * usage: damage CASES SEED
+ */
+#include "sbr_grid.h"
+
+#include <inttypes.h>
+#include <stdio.h>
+#include <stdlib.h>
+#include <string.h>
+#include <sys/mman.h>
+#include <unistd.h>
+
+enum { MAX_BYTES = 24, RANGES = 4, KINDS = 4, NUMBERS_SIZE = SBR_NUMBERS * 4 };
+
+static const char *const KIND_NAMES[KINDS] = {"random bytes", "streams", "truncated streams", "damaged streams"};
+
+static uint64_t state;
+
+static uint64_t next(void)
+{
+    state += 0x9e3779b97f4a7c15u;
+    uint64_t z = state;
+    z = (z ^ (z >> 30)) * 0xbf58476d1ce4e5b9u;
+    z = (z ^ (z >> 27)) * 0x94d049bb133111ebu;
+    return z ^ (z >> 31);
+}
+
+static uint64_t below(uint64_t n) { return next() % n; }
+
+static int one_in(uint64_t n) { return below(n) == 0; }
+
+/* A page between two that can't be touched. */
+struct guarded {
+    uint8_t *page;
+    size_t size;
+};
+
+static struct guarded guard(void)
+{
+    size_t size = (size_t)sysconf(_SC_PAGESIZE);
+    uint8_t *all = mmap(NULL, 3 * size, PROT_READ | PROT_WRITE, MAP_PRIVATE | MAP_ANONYMOUS, -1, 0);
+    if (all == MAP_FAILED || mprotect(all, size, PROT_NONE) != 0 || mprotect(all + 2 * size, size, PROT_NONE) != 0) {
+        perror("guarded memory");
+        exit(2);
+    }
+    return (struct guarded){all + size, size};
+}
+
+/* A range of a guarded page, at its end or at its start, each byte anything. A range of length 0 lies at the edge. */
+static uint8_t *range(struct guarded g, size_t length, int at_end)
+{
+    uint8_t *from = at_end ? g.page + g.size - length : g.page;
+    for (size_t i = 0; i < length; i++)
+        from[i] = (uint8_t)next();
+    return from;
+}
+
+static void fail(const char *what, uint64_t number)
+{
+    printf("damage: %s, in case %" PRIu64 "\n", what, number);
+    exit(1);
+}
+
+/* What the reader gives, in guarded memory of the exact sizes. */
+struct outputs {
+    uint64_t *position;
+    int32_t *border;
+    uint32_t *numbers;
+    uint8_t *freq_res, *rel_0, *rel_1;
+    uint32_t *t_e, *t_q;
+    int32_t *l_a;
+};
+
+static struct guarded in_memory[RANGES], out_memory[9];
+
+static struct outputs outputs(int at_end)
+{
+    return (struct outputs){
+        (uint64_t *)(void *)range(out_memory[0], 8, at_end),  (int32_t *)(void *)range(out_memory[1], 4, at_end),
+        (uint32_t *)(void *)range(out_memory[2], NUMBERS_SIZE, at_end), range(out_memory[3], 5, at_end),
+        range(out_memory[4], 4, at_end), range(out_memory[5], 4, at_end), (uint32_t *)(void *)range(out_memory[6], 24, at_end),
+        (uint32_t *)(void *)range(out_memory[7], 12, at_end), (int32_t *)(void *)range(out_memory[8], 4, at_end),
+    };
+}
+
+/* Every output in one piece, for comparison. */
+static size_t gathered(struct outputs o, uint8_t *to)
+{
+    size_t n = 0;
+    const struct {
+        const void *from;
+        size_t size;
+    } parts[] = {{o.position, 8}, {o.border, 4}, {o.numbers, NUMBERS_SIZE}, {o.freq_res, 5}, {o.rel_0, 4}, {o.rel_1, 4}, {o.t_e, 24}, {o.t_q, 12}, {o.l_a, 4}};
+    for (size_t i = 0; i < sizeof parts / sizeof parts[0]; i++) {
+        memcpy(to + n, parts[i].from, parts[i].size);
+        n += parts[i].size;
+    }
+    return n;
+}
+
+/* A number that is small, at an edge, or anything. */
+static uint64_t some_count(uint64_t most)
+{
+    if (one_in(16))
+        return next();
+    if (one_in(16))
+        return UINT64_MAX - below(3);
+    return below(most + 2);
+}
+
+/* A border byte, half of them 0. */
+static uint32_t some_border(void)
+{
+    return one_in(2) ? 0 : one_in(16) ? (uint32_t)next() : (uint32_t)below(4);
+}
+
+/* A record, most of them with small numbers, is written; answers what the call answered. */
+static uint32_t write_some(uint8_t *bytes, size_t length, uint64_t *position, int at_end)
+{
+    int short_ranges = one_in(8);
+    size_t flags = short_ranges ? (size_t)below(7) : 5, rel_0 = short_ranges ? (size_t)below(6) : 4, rel_1 = short_ranges ? (size_t)below(6) : 4;
+    uint8_t *freq_res = range(in_memory[1], flags, at_end), *first = range(in_memory[2], rel_0, at_end), *second = range(in_memory[3], rel_1, at_end);
+    if (!one_in(8)) {
+        for (size_t i = 0; i < flags; i++)
+            freq_res[i] &= 1;
+        for (size_t i = 0; i < rel_0; i++)
+            first[i] &= 3;
+        for (size_t i = 0; i < rel_1; i++)
+            second[i] &= 3;
+    }
+    uint32_t class = one_in(16) ? (uint32_t)next() : (uint32_t)below(4);
+    uint64_t n0 = some_count(3), n1 = some_count(3), n = some_count(5);
+    if (!one_in(4)) {
+        n0 = class == SBR_VARFIX || class == SBR_VARVAR ? below(4) : 0;
+        n1 = class == SBR_FIXVAR || class == SBR_VARVAR ? below(4) : 0;
+        n = class == SBR_FIXFIX ? 1u << below(3) : n0 + n1 + 1;
+    }
+    uint32_t b0 = some_border(), b1 = some_border();
+    uint32_t pointer = one_in(16) ? (uint32_t)next() : (uint32_t)below(n < 6 ? n + 1 : 6);
+    return sbr_write_grid(bytes, length, position, class, n, freq_res, flags, b0, b1, first, rel_0, n0, second, rel_1, n1, pointer);
+}
+
+static uint64_t written, unwritten[10], answers[10], kinds[KINDS];
+
+/* A write into a range of random length at any position: bits outside those written are kept, a refusal changes nothing. */
+static void try_write(uint64_t number)
+{
+    int at_end = one_in(2);
+    size_t length = (size_t)below(9);
+    uint8_t *bytes = range(in_memory[0], length, at_end), before[8];
+    memcpy(before, bytes, length);
+    uint64_t *position = (uint64_t *)(void *)range(out_memory[0], 8, at_end);
+    uint64_t start = one_in(8) ? next() : below(8 * length + 2);
+    *position = start;
+    uint32_t r = write_some(bytes, length, position, at_end);
+    if (r != 0) {
+        if (r > 9 || *position != start || memcmp(bytes, before, length) != 0)
+            fail("a refused write changed something", number);
+        unwritten[r]++;
+        return;
+    }
+    if (*position <= start || *position > 8 * length)
+        fail("a write ended outside its range", number);
+    for (uint64_t i = 0; i < 8 * length; i++)
+        if ((i < start || i >= *position) && ((bytes[i / 8] ^ before[i / 8]) >> (7 - i % 8) & 1))
+            fail("a write changed another bit", number);
+    written++;
+}
+
+/* Reads until a refusal, which must leave everything as it was. */
+static void read_all(const uint8_t *bytes, size_t length, uint64_t start, int32_t border, uint64_t slots, uint64_t number, int at_end)
+{
+    uint8_t before[128], after[128], kept[MAX_BYTES];
+    memcpy(kept, bytes, length);
+    struct outputs o = outputs(at_end);
+    *o.position = start;
+    *o.border = border;
+    for (;;) {
+        size_t n = gathered(o, before);
+        uint64_t from = *o.position;
+        uint32_t r = sbr_read_grid(bytes, length, slots, o.position, o.border, o.numbers, o.freq_res, o.rel_0, o.rel_1, o.t_e, o.t_q, o.l_a);
+        if (r > 9)
+            fail("a reading answered no number of a refusal", number);
+        answers[r]++;
+        gathered(o, after);
+        if (memcmp(kept, bytes, length) != 0)
+            fail("a reading changed its bytes", number);
+        if (r != 0) {
+            if (memcmp(before, after, n) != 0)
+                fail("a refused reading changed something", number);
+            return;
+        }
+        if (*o.position <= from || *o.position > 8 * (uint64_t)length)
+            fail("a reading ended outside its bytes", number);
+    }
+}
+
+static void try_read(uint64_t number)
+{
+    int at_end = one_in(2);
+    size_t length = (size_t)below(MAX_BYTES + 1);
+    uint8_t *bytes = range(in_memory[0], length, at_end);
+    uint64_t slots = one_in(32) ? next() : 15 + below(2);
+    uint64_t start = one_in(32) ? next() : below(20);
+    uint64_t kind = below(KINDS);
+    if (kind > 0) {
+        uint64_t *position = (uint64_t *)(void *)range(out_memory[0], 8, at_end);
+        *position = start;
+        for (int i = 0; i < 8; i++)
+            write_some(bytes, length, position, at_end);
+    }
+    if (kind == 2 && length > 0) {
+        size_t shorter = (size_t)below(length);
+        if (at_end)
+            memmove(bytes + (length - shorter), bytes, shorter);
+        bytes += at_end ? length - shorter : 0;
+        length = shorter;
+    }
+    if (kind == 3 && length > 0)
+        for (uint64_t flips = 1 + below(3); flips > 0; flips--)
+            bytes[below(length)] ^= (uint8_t)(1u << below(8));
+    kinds[kind]++;
+    int32_t border = one_in(16) ? (int32_t)(uint32_t)next() : (int32_t)(slots & 31) + (int32_t)(one_in(2) ? 0 : below(4));
+    read_all(bytes, length, start, border, slots, number, at_end);
+}
+
+static void print_counts(const char *what, const uint64_t counts[10])
+{
+    printf("%s:", what);
+    for (int i = 0; i < 10; i++)
+        if (counts[i] != 0)
+            printf(" %d: %" PRIu64, i, counts[i]);
+    printf("\n");
+}
+
+int main(int argc, char **argv)
+{
+    if (argc != 3) {
+        fprintf(stderr, "usage: damage CASES SEED\n");
+        return 2;
+    }
+    uint64_t cases = strtoull(argv[1], NULL, 10);
+    state = strtoull(argv[2], NULL, 10);
+    for (int i = 0; i < RANGES; i++)
+        in_memory[i] = guard();
+    for (int i = 0; i < 9; i++)
+        out_memory[i] = guard();
+    for (uint64_t i = 0; i < cases; i++) {
+        try_write(i);
+        try_read(i);
+    }
+    printf("damage: seed %s, %" PRIu64 " writes and %" PRIu64 " inputs read to their first refusal, nothing outside a range touched\n", argv[2], cases, cases);
+    for (int i = 0; i < KINDS; i++)
+        printf("  %s: %" PRIu64 "\n", KIND_NAMES[i], kinds[i]);
+    printf("writes answered: %" PRIu64 "\n", written);
+    print_counts("writes refused, by number", unwritten);
+    print_counts("readings by number (0: a frame)", answers);
+    return 0;
+}
