@@ -1,0 +1,72 @@
+-- `c_bits::derive_time_grid` meets its contract.
+use borrow.Author.Needs.{needs}
+use mathlib.Core.Path.{_≡_, refl, sym, _∙_}
+use mathlib.Core.Bool.{true}
+use borrow.Author.Tests.{not-true, not-false}
+use Rattle.sbr_grid.specs.declared.Refusal.the-variants.{SlotCount, Unwritable}
+use Rattle.sbr_time_grid.specs.TimeGrid.{slotCount, timeGrid}
+use Rattle.sbr_form.proofs.Same.{time-same}
+use Rattle.sbr_form.proofs.Answers.{gives-refused, gives-coded, gives-answered}
+use Rattle.c_bits.proofs.Laws.{is-formed-in}
+use Rattle.c_bits.proofs.Answers.{derived-code, has-derived}
+use Rattle.c_bits.proofs.derive_time_grid.Statement.{statement}
+use Rattle.c_bits.proofs.derive_time_grid.Tie as tie
+
+-- the slot count passed its test
+slots-so : (c : tie.Else1) → slotCount (c .before .before .before .before .args .num-time-slots) ≡ true
+slots-so c = sym (c .before .is-slot-count .ensures) ∙ not-false _ (c .if1 .left)
+
+is-slot-count-requires : tie.Need-is-slot-count-requires
+is-slot-count-requires c κs = search needs
+
+returns : tie.Need-returns
+returns c = gives-refused _ _ SlotCount _ refl (rw (sym (c .before .is-slot-count .ensures) ∙ not-true _ (c .if1 .taken)))
+
+form-borders-requires : tie.Need-form-borders-requires
+form-borders-requires c κs = search needs
+
+returns-2 : tie.Need-returns-2
+returns-2 c =
+    let f = c .before .before in
+    gives-refused _ _ Unwritable _ refl (rw (slots-so (f .before), sym (f .form-borders .ensures .0) ∙ not-true _ (c .if2 .taken)))
+
+derive-time-grid-requires : tie.Need-derive-time-grid-requires
+derive-time-grid-requires c κs = search needs
+
+code-of-requires : tie.Need-code-of-requires
+code-of-requires c κs = search needs
+
+returns-3 : tie.Need-returns-3
+returns-3 c =
+    let d = c .before .before in
+    let e = d .before in
+    let f = e .before .before in
+    gives-coded _ _ _ (derived-code _ (d .derive-time-grid .result) (d .derive-time-grid .ensures) _ (c .before .code-of .ensures)) (c .if3 .taken)
+    (is-formed-in (f .form-borders .result) _ _ (timeGrid _) (time-same _) (f .form-borders .ensures) (e .if2 .left) _ (slots-so (f .before)))
+
+give-times-requires : tie.Need-give-times-requires
+give-times-requires c κs = search needs
+
+returns-4 : tie.Need-returns-4
+returns-4 c =
+    let k = c .before .before .before .before in
+    let d = k .before .before in
+    let e = d .before in
+    let f = e .before .before in
+    gives-answered _ _ _
+    (has-derived _ (d .derive-time-grid .result) (d .derive-time-grid .ensures) _ (k .before .code-of .ensures) (k .if3 .left) _ _ _ (c .give-times .ensures))
+    (is-formed-in (f .form-borders .result) _ _ (timeGrid _) (time-same _) (f .form-borders .ensures) (e .if2 .left) _ (slots-so (f .before)))
+
+pub derive-time-grid-spec : {M : Type 1} → statement M
+derive-time-grid-spec =
+    tie.close
+    (tie.spec
+    is-slot-count-requires
+    returns
+    form-borders-requires
+    returns-2
+    derive-time-grid-requires
+    code-of-requires
+    returns-3
+    give-times-requires
+    returns-4)

@@ -1,0 +1,26 @@
+-- What the calls of C on bits and time grids come to: what they refuse before their own refusals, and what they are given where they are answered.
+use mathlib.Core.Bool.{Bool, cond}
+use mathlib.Core.List.{List}
+use Prim.Native.Nat.{ℕ}
+use lib.IntN.{ℤ, pos}
+use Rattle.sbr_grid.specs.declared.Refusal.the-variants.{SlotCount, Unwritable}
+use Rattle.sbr_grid.specs.Refusals.{Outcome, refused}
+use Rattle.sbr_time_grid.specs.TimeGrid.{slotCount}
+use Rattle.sbr_writer.specs.Write.{Wrote}
+use Rattle.sbr_reader.specs.Read.{Frame}
+use Rattle.sbr_form.specs.Given.{recordOut, timeOut}
+
+-- a call for which ok says that all can be formed: 5, then its own refusals; where it has a slot count, 1 before
+abbrev pub forming : {A : Type 0} → Bool → Outcome A → Outcome A
+forming ok o = cond ok o (refused Unwritable)
+
+abbrev pub slotted : {A : Type 0} → ℕ → Bool → Outcome A → Outcome A
+slotted n ok o = cond (slotCount n) (forming ok o) (refused SlotCount)
+
+-- a write: the bytes and the position after it
+abbrev pub writeOut : Wrote → List ℕ × ℕ
+writeOut w = (w .bytes, w .position)
+
+-- a frame: the position after it, its last border, its record and its time grid
+abbrev pub frameOut : Frame → ℕ × ℤ × (List ℕ × List ℕ × List ℕ × List ℕ) × (List ℕ × List ℕ × ℤ)
+frameOut f = (f .position, pos (f .border), recordOut (f .grid), timeOut (f .time))

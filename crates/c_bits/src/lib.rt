@@ -1,0 +1,141 @@
+// What the calls of C on bits and time grids do. sbr_c exports them.
+use sbr_form::Handed;
+use sbr_reader::Carried;
+use sbr_writer::Written;
+ghost use mathlib.Core.Bool.{_&&_};
+ghost use mathlib.Core.List.{[]};
+ghost use Rattle.sbr_time_grid.specs.TimeGrid.{timeGrid};
+ghost use Rattle.sbr_writer.specs.Write.{writeGrid};
+ghost use Rattle.sbr_reader.specs.Read.{readGrid};
+ghost use Rattle.sbr_form.specs.Handed.{gridFrom, formed, flagged};
+ghost use Rattle.sbr_form.specs.Given.{Gives, timeOut};
+ghost use Rattle.c_bits.specs.Calls.{forming, slotted, writeOut, frameOut};
+
+// Numbers of the refusals that are found here.
+const SLOT_COUNT: u32 = 1;
+
+const UNWRITABLE: u32 = 5;
+
+// sbr_grid() of a record is written at a bit position, which is moved past it.
+pub fn write_grid(
+    bytes: &mut [u8],
+    position: &mut u64,
+    frame_class: u32,
+    num_env: u64,
+    freq_res: &[u8],
+    var_bord_0: u32,
+    var_bord_1: u32,
+    rel_bord_0: &[u8],
+    num_rel_0: u64,
+    rel_bord_1: &[u8],
+    num_rel_1: u64,
+    pointer: u32,
+) -> u32
+    ensures { λ r. ⌜ Gives (forming (formed (record { «frame_class» = «frame_class»; «num_env» = «num_env»; «num_noise» = 0; «var_bord_0» = «var_bord_0»; «var_bord_1» = «var_bord_1»; «num_rel_0» = «num_rel_0»; «num_rel_1» = «num_rel_1»; pointer = pointer }) (now («rel_bord_0» .entry)) (now («rel_bord_1» .entry)) && flagged «num_env» (now («freq_res» .entry))) (writeGrid (now (bytes .entry)) (now (position .entry)) (gridFrom (record { «frame_class» = «frame_class»; «num_env» = «num_env»; «num_noise» = 0; «var_bord_0» = «var_bord_0»; «var_bord_1» = «var_bord_1»; «num_rel_0» = «num_rel_0»; «num_rel_1» = «num_rel_1»; pointer = pointer }) (now («freq_res» .entry)) (now («rel_bord_0» .entry)) (now («rel_bord_1» .entry))))) writeOut (now (bytes .entry), now (position .entry)) r (now (bytes .exit), now (position .exit)) ⌝ }
+{
+    let handed = Handed {
+        frame_class,
+        num_env,
+        num_noise: 0,
+        var_bord_0,
+        var_bord_1,
+        num_rel_0,
+        num_rel_1,
+        pointer,
+    };
+    let formed = sbr_form::form_record(handed, freq_res, rel_bord_0, rel_bord_1);
+    if !formed.is_formed {
+        return UNWRITABLE;
+    }
+    let at = *position as usize;
+    match sbr_writer::write_grid(bytes, at, formed.grid) {
+        Written::To(next) => {
+            *position = next as u64;
+            0
+        }
+        Written::Refused(why) => why.number(),
+    }
+}
+
+// The borders, noise borders and mark of a record.
+pub fn derive_time_grid(
+    num_time_slots: u64,
+    frame_class: u32,
+    num_env: u64,
+    num_noise: u64,
+    var_bord_0: u32,
+    var_bord_1: u32,
+    rel_bord_0: &[u8],
+    num_rel_0: u64,
+    rel_bord_1: &[u8],
+    num_rel_1: u64,
+    pointer: u32,
+    t_e: &mut [u32; 6],
+    t_q: &mut [u32; 3],
+    l_a: &mut i32,
+) -> u32
+    ensures { λ r. ⌜ Gives (slotted «num_time_slots» (formed (record { «frame_class» = «frame_class»; «num_env» = «num_env»; «num_noise» = «num_noise»; «var_bord_0» = «var_bord_0»; «var_bord_1» = «var_bord_1»; «num_rel_0» = «num_rel_0»; «num_rel_1» = «num_rel_1»; pointer = pointer }) (now («rel_bord_0» .entry)) (now («rel_bord_1» .entry))) (timeGrid «num_time_slots» (gridFrom (record { «frame_class» = «frame_class»; «num_env» = «num_env»; «num_noise» = «num_noise»; «var_bord_0» = «var_bord_0»; «var_bord_1» = «var_bord_1»; «num_rel_0» = «num_rel_0»; «num_rel_1» = «num_rel_1»; pointer = pointer }) [] (now («rel_bord_0» .entry)) (now («rel_bord_1» .entry))))) timeOut (now («t_e» .entry), now («t_q» .entry), now («l_a» .entry)) r (now («t_e» .exit), now («t_q» .exit), now («l_a» .exit)) ⌝ }
+{
+    if !sbr_time_grid::is_slot_count(num_time_slots as usize) {
+        return SLOT_COUNT;
+    }
+    let handed = Handed {
+        frame_class,
+        num_env,
+        num_noise,
+        var_bord_0,
+        var_bord_1,
+        num_rel_0,
+        num_rel_1,
+        pointer,
+    };
+    let formed = sbr_form::form_borders(handed, rel_bord_0, rel_bord_1);
+    if !formed.is_formed {
+        return UNWRITABLE;
+    }
+    let derived = sbr_time_grid::derive_time_grid(formed.grid, num_time_slots as usize);
+    let answer = derived.answer;
+    let code = sbr_form::code_of(answer);
+    if code != 0 {
+        return code;
+    }
+    sbr_form::give_times(derived.time, t_e, t_q, l_a);
+    0
+}
+
+// The frame at a bit position: record, time grid, the position after it and its last border.
+pub fn read_grid(
+    bytes: &[u8],
+    num_time_slots: u64,
+    position: &mut u64,
+    border: &mut i32,
+    numbers: &mut [u32; 9],
+    freq_res: &mut [u8; 5],
+    rel_bord_0: &mut [u8; 4],
+    rel_bord_1: &mut [u8; 4],
+    t_e: &mut [u32; 6],
+    t_q: &mut [u32; 3],
+    l_a: &mut i32,
+) -> u32
+    ensures { λ r. ⌜ Gives (readGrid (now (bytes .entry)) (now (position .entry)) «num_time_slots» (now (border .entry))) frameOut (now (position .entry), now (border .entry), (now (numbers .entry), now («freq_res» .entry), now («rel_bord_0» .entry), now («rel_bord_1» .entry)), (now («t_e» .entry), now («t_q» .entry), now («l_a» .entry))) r (now (position .exit), now (border .exit), (now (numbers .exit), now («freq_res» .exit), now («rel_bord_0» .exit), now («rel_bord_1» .exit)), (now («t_e» .exit), now («t_q» .exit), now («l_a» .exit))) ⌝ }
+{
+    let at = *position as usize;
+    let before = *border;
+    let read = sbr_reader::read_grid(
+        bytes,
+        at,
+        num_time_slots as usize,
+        Carried { border: before },
+    );
+    let answer = read.answer;
+    let code = sbr_form::code_of(answer);
+    if code != 0 {
+        return code;
+    }
+    let last = read.carried.border;
+    *position = read.position as u64;
+    *border = last;
+    sbr_form::give_record(read.grid, numbers, freq_res, rel_bord_0, rel_bord_1);
+    sbr_form::give_times(read.time, t_e, t_q, l_a);
+    0
+}

@@ -1,0 +1,2 @@
+pub mod Elections
+pub mod Energies

@@ -1,0 +1,42 @@
+-- `sbr_form::form_borders` meets its contract.
+use borrow.Author.Needs.{needs}
+use mathlib.Core.Path.{_≡_, sym, _∙_}
+use mathlib.Core.Bool.{true}
+use borrow.Author.Tests.{not-true, not-false}
+use Rattle.sbr_form.specs.Handed.{formed}
+use Rattle.sbr_form.proofs.Laws.{formed-told, none-formed}
+use Rattle.sbr_form.proofs.form_borders.Statement.{statement}
+use Rattle.sbr_form.proofs.form_borders.Tie as tie
+
+-- what the test tells once it is passed
+formed-so : (c : tie.Else1) → let a = c .before .before .before .before .args in formed (a .h) (a .rel-bord-0 .now) (a .rel-bord-1 .now) ≡ true
+formed-so c = sym (c .before .is-formed .ensures) ∙ not-false _ (c .if1 .left)
+
+is-formed-requires : tie.Need-is-formed-requires
+is-formed-requires c κs = search needs
+
+unformed-requires : tie.Need-unformed-requires
+unformed-requires c κs = search needs
+
+returns : tie.Need-returns
+returns c = none-formed _ _ (c .unformed .ensures) (sym (c .before .before .is-formed .ensures) ∙ not-true _ (c .before .if1 .taken))
+
+slice-aggregate-record : tie.Need-slice-aggregate-record
+slice-aggregate-record c = search needs
+
+record-requires : tie.Need-record-requires
+record-requires c κs = formed-told _ _ _ (formed-so (c .before)) .bytes
+
+returns-2 : tie.Need-returns-2
+returns-2 c = (sym (formed-so (c .before .before)), λ e. c .«record» .ensures)
+
+pub form-borders-spec : {M : Type 1} → statement M
+form-borders-spec =
+    tie.close
+    (tie.spec
+    is-formed-requires
+    unformed-requires
+    returns
+    slice-aggregate-record
+    record-requires
+    returns-2)

@@ -1,0 +1,27 @@
+-- `sbr_form::is_formed` meets its contract.
+use native.Mathlib.Omega.{arith}
+use Rattle.sbr_time_grid.proofs.Laws.{untrue}
+use Rattle.sbr_form.proofs.Laws.{formed-told, formed-last}
+use Rattle.sbr_form.proofs.is_formed.Statement.{statement}
+use Rattle.sbr_form.proofs.is_formed.Tie as tie
+
+returns : tie.Need-returns
+returns c = untrue _ (λ t. omega (arith, formed-told _ _ _ t))
+
+returns-2 : tie.Need-returns-2
+returns-2 c = untrue _ (λ t. omega (arith, formed-told _ _ _ t))
+
+returns-3 : tie.Need-returns-3
+returns-3 c = untrue _ (λ t. omega (arith, formed-told _ _ _ t))
+
+returns-4 : tie.Need-returns-4
+returns-4 c = untrue _ (λ t. omega (arith, formed-told _ _ _ t))
+
+returns-5 : tie.Need-returns-5
+returns-5 c = untrue _ (λ t. omega (arith, formed-told _ _ _ t))
+
+returns-6 : tie.Need-returns-6
+returns-6 c = formed-last _ _ _ (omega arith)
+
+pub is-formed-spec : {M : Type 1} → statement M
+is-formed-spec = tie.close (tie.spec returns returns-2 returns-3 returns-4 returns-5 returns-6)
