@@ -51,7 +51,8 @@ pub fn elect_grid(
     if code != 0 {
         return code;
     }
-    *transient = elected.transient as u32;
+    let onset = elected.transient as u32;
+    *transient = onset;
     sbr_form::give_record(elected.grid, numbers, freq_res, rel_bord_0, rel_bord_1);
     0
 }

@@ -59,10 +59,11 @@ pub fn send_frame(
     if code != 0 {
         return code;
     }
-    let last = sending.place.carried.border;
+    let last_sent = sending.place.carried.border;
+    let onset_sent = sending.transient as u32;
     *position = sending.place.position as u64;
-    *border = last;
-    *transient = sending.transient as u32;
+    *border = last_sent;
+    *transient = onset_sent;
     sbr_form::give_record(sending.grid, numbers, freq_res, rel_bord_0, rel_bord_1);
     sbr_form::give_times(sending.time, t_e, t_q, l_a);
     0

@@ -54,8 +54,8 @@ returns-3 c =
     gives-coded _ _ _ (elect-code _ _ _ _ _ _ (d .elect-grid .result) (elected-is d) _ (c .before .code-of .ensures)) (c .if3 .taken)
     (elected (d .before))
 
-cast-transient : tie.Need-cast-transient
-cast-transient c = search needs
+cast-onset : tie.Need-cast-onset
+cast-onset c = search needs
 
 give-record-requires : tie.Need-give-record-requires
 give-record-requires c κs =
@@ -81,6 +81,6 @@ elect-grid-spec =
     elect-grid-requires
     code-of-requires
     returns-3
-    cast-transient
+    cast-onset
     give-record-requires
     returns-4)

@@ -77,8 +77,8 @@ returns-3 c =
     rw (not-sent (turn-at (tested d)) (place (tested d)) (d .send-frame .result) _ (left d) (sent-is d) _ k (c .if3 .taken))
     (gives-coded _ _ _ (send-code (turn-at (tested d)) (place (tested d)) (d .send-frame .result) _ (left d) (sent-is d) _ k) (c .if3 .taken) (sent (tested d)))
 
-cast-transient : tie.Need-cast-transient
-cast-transient c = search needs
+cast-onset-sent : tie.Need-cast-onset-sent
+cast-onset-sent c = search needs
 
 give-record-requires : tie.Need-give-record-requires
 give-record-requires c κs =
@@ -114,7 +114,7 @@ send-frame-spec =
     code-of-requires
     same-length
     returns-3
-    cast-transient
+    cast-onset-sent
     give-record-requires
     give-times-requires
     same-length-2
