@@ -1,5 +1,5 @@
 -- What a plan of the border search is, without the search (document 01, "Border search"), and the statement that the search answers the
--- first of all plans. Proved in sbr_plan, proofs/Best.antt.
+-- first of all plans. Proved in sbr_chosen, proofs/Best.antt.
 use mathlib.Core.Path.{_≡_}
 use mathlib.Core.Bool.{Bool, true}
 use mathlib.Core.List.{List, [], _∷_}
