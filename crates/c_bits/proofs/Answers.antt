@@ -1,30 +1,31 @@
 -- What the answers of the calls below tell.
-use mathlib.Core.Path.{_≡_, refl, ap}
+use mathlib.Core.Path.{_≡_, refl, sym, ap, _∙_}
 use mathlib.Core.List.{List}
 use Prim.Native.Nat.{ℕ}
 use native.Mathlib.Omega.{arith}
 use lib.IntN.{ℤ}
 use Rattle.sbr_grid.specs.declared.Refusal.{Refusal}
-use Rattle.sbr_grid.specs.Refusals.{Outcome, answered, refused}
+use Rattle.sbr_grid.specs.Refusals.{Outcome, answered, refused, answerOf}
 use Rattle.sbr_time_grid.specs.declared.Derived.{Derived}
-use Rattle.sbr_time_grid.specs.TimeGrid.{Times, derivedOf}
+use Rattle.sbr_grid.specs.Times.{Times}
+use Rattle.sbr_time_grid.specs.TimeGrid.{derivedOf}
 use Rattle.sbr_writer.specs.declared.Written.{Written}
 use Rattle.sbr_writer.specs.declared.Written.the-variants.{To, Refused as NotWritten}
 use Rattle.sbr_writer.specs.Write.{Wrote, writtenOf, bytesAfter}
-use Rattle.sbr_form.specs.Given.{timeOut}
-use Rattle.sbr_form.proofs.Answers.{Code, Coded, coded, has-answered, Out, handed-out, TimesAt}
+use Rattle.sbr_form.specs.Given.{codeOf, timeOut}
+use Rattle.sbr_form.proofs.Answers.{has-answered, Out, handed-out, TimesAt}
 use Rattle.c_bits.specs.Calls.{writeOut}
 
-module _ (o : Outcome Times) (d : Derived) (e : d ≡ derivedOf o) (r : ℕ) (k : Code (d .answer) r) where
+module _ (o : Outcome Times) (d : Derived) (e : d ≡ derivedOf o) (r : ℕ) (k : r ≡ codeOf (d .answer)) where
   -- the number of a time grid
-  pub derived-code : Coded o r
-  derived-code = coded o (d .answer) r (ap (λ x. x .answer) e) k
+  pub derived-code : r ≡ codeOf (answerOf o)
+  derived-code = k ∙ ap (λ x. codeOf (x .answer)) e
 
   -- it is given whole
   pub has-derived : r ≡ 0 → (te tq : List ℕ) (la : ℤ) → TimesAt (d .time) te tq la → Out o timeOut (te, tq, la)
   has-derived z te tq la t =
       rw (t .0, t .1 .0, t .1 .1)
-      (handed-out derivedOf (λ x. (x .time .«t_e», x .time .«t_q», x .time .«l_a»)) timeOut (λ t. refl) o d e (has-answered o (rw z at derived-code)))
+      (handed-out derivedOf (λ x. (x .time .«t_e», x .time .«t_q», x .time .«l_a»)) timeOut (λ t. refl) o d e (has-answered o (sym z ∙ derived-code)))
 
 -- the writer wrote
 pub has-written : (o : Outcome Wrote) (s : Written) (l m : List ℕ) (q : ℕ) → s ≡ writtenOf o → m ≡ bytesAfter l o → s ≡ To q → Out o writeOut (m, q)

@@ -1,13 +1,16 @@
 -- What the calls of C on bits and time grids come to: what they refuse before their own refusals, and what they are given where they are answered.
 use mathlib.Core.Bool.{Bool, cond}
-use mathlib.Core.List.{List}
+use mathlib.Core.List.{List, []}
 use Prim.Native.Nat.{ℕ}
 use lib.IntN.{ℤ, pos}
 use Rattle.sbr_grid.specs.declared.Refusal.the-variants.{SlotCount, Unwritable}
 use Rattle.sbr_grid.specs.Refusals.{Outcome, refused}
-use Rattle.sbr_time_grid.specs.TimeGrid.{slotCount}
-use Rattle.sbr_writer.specs.Write.{Wrote}
+use Rattle.sbr_grid.specs.Times.{Times, slotCount}
+use Rattle.sbr_time_grid.specs.TimeGrid.{timeGrid}
+use Rattle.sbr_writer.specs.Write.{Wrote, writeGrid}
 use Rattle.sbr_reader.specs.Read.{Frame}
+use Rattle.sbr_form.specs.declared.Handed.{Handed}
+use Rattle.sbr_form.specs.Handed.{gridFrom, formed, formable}
 use Rattle.sbr_form.specs.Given.{recordOut, timeOut}
 
 -- a call for which ok says that all can be formed: 5, then its own refusals; where it has a slot count, 1 before
@@ -16,6 +19,14 @@ forming ok o = cond ok o (refused Unwritable)
 
 abbrev pub slotted : {A : Type 0} → ℕ → Bool → Outcome A → Outcome A
 slotted n ok o = cond (slotCount n) (forming ok o) (refused SlotCount)
+
+-- writing: 5 for what can't be formed, then as `writeGrid`
+abbrev pub writeCall : Handed → List ℕ → List ℕ → List ℕ → List ℕ → ℕ → Outcome Wrote
+writeCall h flags rel0 rel1 l p = forming (formable h flags rel0 rel1) (writeGrid l p (gridFrom h flags rel0 rel1))
+
+-- a time grid: 1, 5, then as `timeGrid`; it needs no flags
+abbrev pub timeCall : ℕ → Handed → List ℕ → List ℕ → Outcome Times
+timeCall n h rel0 rel1 = slotted n (formed h rel0 rel1) (timeGrid n (gridFrom h [] rel0 rel1))
 
 -- a write: the bytes and the position after it
 abbrev pub writeOut : Wrote → List ℕ × ℕ

@@ -1,20 +1,12 @@
 // What the calls of C on bits and time grids do. sbr_c exports them.
 use sbr_form::Handed;
+use sbr_grid::Refusal;
 use sbr_reader::Carried;
 use sbr_writer::Written;
-ghost use mathlib.Core.Bool.{_&&_};
-ghost use mathlib.Core.List.{[]};
-ghost use Rattle.sbr_time_grid.specs.TimeGrid.{timeGrid};
-ghost use Rattle.sbr_writer.specs.Write.{writeGrid};
 ghost use Rattle.sbr_reader.specs.Read.{readGrid};
-ghost use Rattle.sbr_form.specs.Handed.{gridFrom, formed, flagged};
+ghost use Rattle.sbr_form.specs.Handed.{handed};
 ghost use Rattle.sbr_form.specs.Given.{Gives, timeOut};
-ghost use Rattle.c_bits.specs.Calls.{forming, slotted, writeOut, frameOut};
-
-// Numbers of the refusals that are found here.
-const SLOT_COUNT: u32 = 1;
-
-const UNWRITABLE: u32 = 5;
+ghost use Rattle.c_bits.specs.Calls.{writeCall, timeCall, writeOut, frameOut};
 
 // sbr_grid() of a record is written at a bit position, which is moved past it.
 pub fn write_grid(
@@ -31,7 +23,7 @@ pub fn write_grid(
     num_rel_1: u64,
     pointer: u32,
 ) -> u32
-    ensures { λ r. ⌜ Gives (forming (formed (record { «frame_class» = «frame_class»; «num_env» = «num_env»; «num_noise» = 0; «var_bord_0» = «var_bord_0»; «var_bord_1» = «var_bord_1»; «num_rel_0» = «num_rel_0»; «num_rel_1» = «num_rel_1»; pointer = pointer }) (now («rel_bord_0» .entry)) (now («rel_bord_1» .entry)) && flagged «num_env» (now («freq_res» .entry))) (writeGrid (now (bytes .entry)) (now (position .entry)) (gridFrom (record { «frame_class» = «frame_class»; «num_env» = «num_env»; «num_noise» = 0; «var_bord_0» = «var_bord_0»; «var_bord_1» = «var_bord_1»; «num_rel_0» = «num_rel_0»; «num_rel_1» = «num_rel_1»; pointer = pointer }) (now («freq_res» .entry)) (now («rel_bord_0» .entry)) (now («rel_bord_1» .entry))))) writeOut (now (bytes .entry), now (position .entry)) r (now (bytes .exit), now (position .exit)) ⌝ }
+    ensures { λ r. ⌜ Gives (writeCall (handed «frame_class» «num_env» 0 «var_bord_0» «var_bord_1» «num_rel_0» «num_rel_1» pointer) (now («freq_res» .entry)) (now («rel_bord_0» .entry)) (now («rel_bord_1» .entry)) (now (bytes .entry)) (now (position .entry))) writeOut (now (bytes .entry), now (position .entry)) r (now (bytes .exit), now (position .exit)) ⌝ }
 {
     let handed = Handed {
         frame_class,
@@ -45,7 +37,7 @@ pub fn write_grid(
     };
     let formed = sbr_form::form_record(handed, freq_res, rel_bord_0, rel_bord_1);
     if !formed.is_formed {
-        return UNWRITABLE;
+        return Refusal::Unwritable.number();
     }
     let at = *position as usize;
     match sbr_writer::write_grid(bytes, at, formed.grid) {
@@ -74,10 +66,10 @@ pub fn derive_time_grid(
     t_q: &mut [u32; 3],
     l_a: &mut i32,
 ) -> u32
-    ensures { λ r. ⌜ Gives (slotted «num_time_slots» (formed (record { «frame_class» = «frame_class»; «num_env» = «num_env»; «num_noise» = «num_noise»; «var_bord_0» = «var_bord_0»; «var_bord_1» = «var_bord_1»; «num_rel_0» = «num_rel_0»; «num_rel_1» = «num_rel_1»; pointer = pointer }) (now («rel_bord_0» .entry)) (now («rel_bord_1» .entry))) (timeGrid «num_time_slots» (gridFrom (record { «frame_class» = «frame_class»; «num_env» = «num_env»; «num_noise» = «num_noise»; «var_bord_0» = «var_bord_0»; «var_bord_1» = «var_bord_1»; «num_rel_0» = «num_rel_0»; «num_rel_1» = «num_rel_1»; pointer = pointer }) [] (now («rel_bord_0» .entry)) (now («rel_bord_1» .entry))))) timeOut (now («t_e» .entry), now («t_q» .entry), now («l_a» .entry)) r (now («t_e» .exit), now («t_q» .exit), now («l_a» .exit)) ⌝ }
+    ensures { λ r. ⌜ Gives (timeCall «num_time_slots» (handed «frame_class» «num_env» «num_noise» «var_bord_0» «var_bord_1» «num_rel_0» «num_rel_1» pointer) (now («rel_bord_0» .entry)) (now («rel_bord_1» .entry))) timeOut (now («t_e» .entry), now («t_q» .entry), now («l_a» .entry)) r (now («t_e» .exit), now («t_q» .exit), now («l_a» .exit)) ⌝ }
 {
-    if !sbr_time_grid::is_slot_count(num_time_slots as usize) {
-        return SLOT_COUNT;
+    if !sbr_grid::is_slot_count(num_time_slots as usize) {
+        return Refusal::SlotCount.number();
     }
     let handed = Handed {
         frame_class,
@@ -91,7 +83,7 @@ pub fn derive_time_grid(
     };
     let formed = sbr_form::form_borders(handed, rel_bord_0, rel_bord_1);
     if !formed.is_formed {
-        return UNWRITABLE;
+        return Refusal::Unwritable.number();
     }
     let derived = sbr_time_grid::derive_time_grid(formed.grid, num_time_slots as usize);
     let answer = derived.answer;

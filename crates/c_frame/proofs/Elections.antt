@@ -1,21 +1,22 @@
 -- What C is given of an election.
-use mathlib.Core.Path.{_≡_, ap, _∙_}
+use mathlib.Core.Path.{_≡_, sym, ap, _∙_}
 use mathlib.Core.Bool.{Bool}
 use mathlib.Core.List.{List, []}
 use Prim.Native.Nat.{ℕ}
 use lib.IntN.{ℤ}
 use lib.Ieee.{Float}
 use Rattle.bits.specs.Bits.{bitN}
-use Rattle.sbr_grid.specs.Refusals.{answered}
+use Rattle.sbr_grid.specs.Refusals.{answered, answerOf}
 use Rattle.sbr_grid.specs.Grid.{Grid, recordOf}
-use Rattle.sbr_reader.specs.Inverse.{cleared}
-use Rattle.sbr_reader.proofs.Inverse.{reads-back}
+use Rattle.sbr_parse.specs.Inverse.{cleared}
+use Rattle.sbr_parse.proofs.Inverse.{reads-back}
 use Rattle.sbr_encoder.specs.declared.Election.{Election}
 use Rattle.sbr_encoder.specs.Election.{Elected, elect, electionOf}
 use Rattle.sbr_encoder.specs.Claims.{Sent}
 use Rattle.sbr_encoder.proofs.Elections.{every-election}
+use Rattle.sbr_form.specs.Given.{codeOf}
 use Rattle.sbr_form.specs.Form.{Few}
-use Rattle.sbr_form.proofs.Answers.{Code, Coded, coded, has-answered, Out, handed-out, RecordAt, shown, shown-record}
+use Rattle.sbr_form.proofs.Answers.{has-answered, Out, handed-out, RecordAt, shown, shown-record}
 use Rattle.c_frame.specs.Frames.{electionOut}
 use Rattle.c_bits.proofs.Readings.{few-of}
 
@@ -40,15 +41,15 @@ pub elected-few : (n : ℕ) (high low : List ℕ) (x : List Float) (previous : �
 elected-few n high low x previous variable e h =
     let s = every-election n high low x previous variable e h in few-of (e .grid) (s .fits) (sent-clear _ _ _ s)
 
-module _ (n : ℕ) (high low : List ℕ) (x : List Float) (previous : ℤ) (variable : Bool) (r : Election) (e : r ≡ electionOf (elect n high low x previous variable)) (m : ℕ) (k : Code (r .answer) m) where
+module _ (n : ℕ) (high low : List ℕ) (x : List Float) (previous : ℤ) (variable : Bool) (r : Election) (e : r ≡ electionOf (elect n high low x previous variable)) (m : ℕ) (k : m ≡ codeOf (r .answer)) where
   -- the number of an election
-  pub elect-code : Coded (elect n high low x previous variable) m
-  elect-code = coded (elect n high low x previous variable) (r .answer) m (ap (λ x. x .answer) e) k
+  pub elect-code : m ≡ codeOf (answerOf (elect n high low x previous variable))
+  elect-code = k ∙ ap (λ x. codeOf (x .answer)) e
 
   module _ (z : m ≡ 0) where
     -- an election that answers has a record
     elected-of : (a : Elected) × (elect n high low x previous variable ≡ answered a)
-    elected-of = has-answered (elect n high low x previous variable) (rw z at elect-code)
+    elected-of = has-answered (elect n high low x previous variable) (sym z ∙ elect-code)
 
     -- its counts are small
     pub elect-few : Few (r .grid)

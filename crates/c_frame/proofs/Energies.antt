@@ -11,7 +11,8 @@ use Rattle.sbr_grid.specs.declared.Refusal.{Refusal}
 use Rattle.sbr_grid.specs.declared.Refusal.the-variants.{SlotCount, Samples, Tables, TimeGrid}
 use Rattle.sbr_grid.specs.Refusals.{Outcome, answered, refused}
 use Rattle.sbr_grid.specs.Grid.{viewOf, recordOf, Grid}
-use Rattle.sbr_time_grid.specs.TimeGrid.{slotCount, countsFit}
+use Rattle.sbr_grid.specs.Times.{slotCount}
+use Rattle.sbr_time_grid.specs.TimeGrid.{countsFit}
 use Rattle.sbr_qmf.specs.Qmf.{columns}
 use Rattle.sbr_bands.specs.Tables.{tablesFit}
 use Rattle.sbr_envelopes.specs.declared.Estimated.{Estimated}

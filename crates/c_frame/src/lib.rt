@@ -1,20 +1,11 @@
 // What the calls of C for election and energies do. sbr_c exports them.
 use sbr_envelopes::Estimated;
 use sbr_form::Handed;
-ghost use mathlib.Core.Bool.{_&&_};
-ghost use lib.Dec.{leb, eqb};
+use sbr_grid::Refusal;
 ghost use lib.ListN.{length};
-ghost use Rattle.sbr_envelopes.specs.Envelopes.{energies};
-ghost use Rattle.sbr_encoder.specs.Election.{elect};
-ghost use Rattle.sbr_form.specs.Handed.{gridFrom, formed, flagged};
+ghost use Rattle.sbr_form.specs.Handed.{handed};
 ghost use Rattle.sbr_form.specs.Given.{Gives};
-ghost use Rattle.c_bits.specs.Calls.{slotted};
-ghost use Rattle.c_frame.specs.Frames.{electionOut, energyOut};
-
-// Numbers of the refusals that are found here.
-const SLOT_COUNT: u32 = 1;
-
-const UNWRITABLE: u32 = 5;
+ghost use Rattle.c_frame.specs.Frames.{electCall, energyCall, electionOut, energyOut};
 
 // The grid of a frame from its samples: its record, and whether the frame has an onset.
 pub fn elect_grid(
@@ -30,13 +21,13 @@ pub fn elect_grid(
     rel_bord_0: &mut [u8; 4],
     rel_bord_1: &mut [u8; 4],
 ) -> u32
-    ensures { λ r. ⌜ Gives (slotted «num_time_slots» (leb «variable_borders» 1) (elect «num_time_slots» (now (high .entry)) (now (low .entry)) (now (samples .entry)) «previous_border» (eqb «variable_borders» 1))) electionOut (now (transient .entry), (now (numbers .entry), now («freq_res» .entry), now («rel_bord_0» .entry), now («rel_bord_1» .entry))) r (now (transient .exit), (now (numbers .exit), now («freq_res» .exit), now («rel_bord_0» .exit), now («rel_bord_1» .exit))) ⌝ }
+    ensures { λ r. ⌜ Gives (electCall «num_time_slots» (now (high .entry)) (now (low .entry)) (now (samples .entry)) «previous_border» «variable_borders») electionOut (now (transient .entry), (now (numbers .entry), now («freq_res» .entry), now («rel_bord_0» .entry), now («rel_bord_1» .entry))) r (now (transient .exit), (now (numbers .exit), now («freq_res» .exit), now («rel_bord_0» .exit), now («rel_bord_1» .exit))) ⌝ }
 {
-    if !sbr_time_grid::is_slot_count(num_time_slots as usize) {
-        return SLOT_COUNT;
+    if !sbr_grid::is_slot_count(num_time_slots as usize) {
+        return Refusal::SlotCount.number();
     }
     if 1 < variable_borders {
-        return UNWRITABLE;
+        return Refusal::Unwritable.number();
     }
     let elected = sbr_encoder::elect_grid(
         samples,
@@ -77,10 +68,10 @@ pub fn estimate_envelopes(
     out: &mut [f64],
     count: &mut u64,
 ) -> u32
-    ensures { λ r. ⌜ Gives (slotted «num_time_slots» (formed (record { «frame_class» = «frame_class»; «num_env» = «num_env»; «num_noise» = «num_noise»; «var_bord_0» = «var_bord_0»; «var_bord_1» = «var_bord_1»; «num_rel_0» = «num_rel_0»; «num_rel_1» = «num_rel_1»; pointer = pointer }) (now («rel_bord_0» .entry)) (now («rel_bord_1» .entry)) && flagged «num_env» (now («freq_res» .entry))) (energies «num_time_slots» (now (high .entry)) (now (low .entry)) (now (samples .entry)) (gridFrom (record { «frame_class» = «frame_class»; «num_env» = «num_env»; «num_noise» = «num_noise»; «var_bord_0» = «var_bord_0»; «var_bord_1» = «var_bord_1»; «num_rel_0» = «num_rel_0»; «num_rel_1» = «num_rel_1»; pointer = pointer }) (now («freq_res» .entry)) (now («rel_bord_0» .entry)) (now («rel_bord_1» .entry))) (length (now (out .entry))))) (energyOut (now (out .entry))) (now (out .entry), now (count .entry)) r (now (out .exit), now (count .exit)) ⌝ }
+    ensures { λ r. ⌜ Gives (energyCall «num_time_slots» (now (high .entry)) (now (low .entry)) (now (samples .entry)) (handed «frame_class» «num_env» «num_noise» «var_bord_0» «var_bord_1» «num_rel_0» «num_rel_1» pointer) (now («freq_res» .entry)) (now («rel_bord_0» .entry)) (now («rel_bord_1» .entry)) (length (now (out .entry)))) (energyOut (now (out .entry))) (now (out .entry), now (count .entry)) r (now (out .exit), now (count .exit)) ⌝ }
 {
-    if !sbr_time_grid::is_slot_count(num_time_slots as usize) {
-        return SLOT_COUNT;
+    if !sbr_grid::is_slot_count(num_time_slots as usize) {
+        return Refusal::SlotCount.number();
     }
     let handed = Handed {
         frame_class,
@@ -94,7 +85,7 @@ pub fn estimate_envelopes(
     };
     let formed = sbr_form::form_record(handed, freq_res, rel_bord_0, rel_bord_1);
     if !formed.is_formed {
-        return UNWRITABLE;
+        return Refusal::Unwritable.number();
     }
     match sbr_envelopes::estimate_envelopes(
         samples,

@@ -4,15 +4,15 @@ use mathlib.Core.List.{List}
 use Prim.Native.Nat.{ℕ}
 use lib.IntN.{ℤ, pos}
 use Rattle.bits.specs.Bits.{bitN}
-use Rattle.sbr_grid.specs.Refusals.{answered}
+use Rattle.sbr_grid.specs.Refusals.{answered, answerOf}
 use Rattle.sbr_run.specs.declared.Place.{Place}
 use Rattle.sbr_run.specs.declared.Sending.{Sending}
 use Rattle.sbr_run.specs.Run.{Turn, Turned, turn, lastBorder}
 use Rattle.sbr_run.specs.Forms.{sendingOf, bytesLeft}
 use Rattle.sbr_run.proofs.OneFrame.{calls}
-use Rattle.sbr_form.specs.Given.{timeOut}
+use Rattle.sbr_form.specs.Given.{codeOf, timeOut}
 use Rattle.sbr_form.specs.Form.{Few}
-use Rattle.sbr_form.proofs.Answers.{Code, Coded, coded, has-answered, has-refused, Out, handed-out, TimesAt, RecordAt, shown, shown-record}
+use Rattle.sbr_form.proofs.Answers.{has-answered, has-refused, Out, handed-out, TimesAt, RecordAt, shown, shown-record}
 use Rattle.c_send.specs.Turns.{sendOut}
 use Rattle.c_frame.proofs.Elections.{elected-few}
 
@@ -28,10 +28,10 @@ given-turned l p a =
     ap (λ s. (a .wrote .bytes, a .wrote .position, pos (lastBorder (a .sent .time)), bitN (a .transient), s, timeOut (a .sent .time)))
     (shown-record (a .sent .grid))
 
-module _ (t : Turn) (p : Place) (r : Sending) (l bs : List ℕ) (e : (r ≡ sendingOf p (turn t)) × (bs ≡ bytesLeft l (turn t))) (m : ℕ) (k : Code (r .answer) m) where
+module _ (t : Turn) (p : Place) (r : Sending) (l bs : List ℕ) (e : (r ≡ sendingOf p (turn t)) × (bs ≡ bytesLeft l (turn t))) (m : ℕ) (k : m ≡ codeOf (r .answer)) where
   -- the number of a turn
-  pub send-code : Coded (turn t) m
-  send-code = coded (turn t) (r .answer) m (ap (λ x. x .answer) (e .0)) k
+  pub send-code : m ≡ codeOf (answerOf (turn t))
+  send-code = k ∙ ap (λ x. codeOf (x .answer)) (e .0)
 
   -- one that refuses leaves the bytes as they were
   pub not-sent : (m ≡ 0 → ⊥) → bs ≡ l
@@ -40,7 +40,7 @@ module _ (t : Turn) (p : Place) (r : Sending) (l bs : List ℕ) (e : (r ≡ send
   module _ (z : m ≡ 0) where
     -- one that answers sends a frame
     turned-of : (a : Turned) × (turn t ≡ answered a)
-    turned-of = has-answered (turn t) (rw z at send-code)
+    turned-of = has-answered (turn t) (sym z ∙ send-code)
 
     -- the counts of its record are small
     pub sent-few : Few (r .grid)

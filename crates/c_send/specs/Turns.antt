@@ -1,10 +1,21 @@
--- What a turn of C is given where it is answered.
+-- What a turn of C comes to, and what it is given where it is answered.
 use mathlib.Core.List.{List}
 use Prim.Native.Nat.{ℕ}
+use lib.Dec.{leb, eqb}
 use lib.IntN.{ℤ, pos}
+use lib.Ieee.{Float}
 use Rattle.bits.specs.Bits.{bitN}
-use Rattle.sbr_run.specs.Run.{Turned, lastBorder}
+use Rattle.sbr_grid.specs.Refusals.{Outcome}
+use Rattle.sbr_run.specs.Run.{Turned, turn, lastBorder}
+use Rattle.sbr_run.specs.Forms.{turnFrom}
 use Rattle.sbr_form.specs.Given.{recordOut, timeOut}
+use Rattle.c_bits.specs.Calls.{slotted}
+
+-- a turn: 1, 5 for a switch that is neither 0 nor 1, then as `turn`
+abbrev pub sendCall : ℕ → List ℕ → List ℕ → List Float → ℕ → List ℕ → ℕ → ℤ → Outcome Turned
+sendCall n high low x switch l p b =
+    slotted n (leb switch 1)
+    (turn (turnFrom n high low x (eqb switch 1) l (record { carried = record { border = b }; position = p })))
 
 -- a turn that sends a frame: bytes, position and border after it, whether it has an onset, its record and its time grid
 abbrev pub sendOut : Turned → List ℕ × ℕ × ℤ × ℕ × (List ℕ × List ℕ × List ℕ × List ℕ) × (List ℕ × List ℕ × ℤ)

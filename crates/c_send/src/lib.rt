@@ -1,17 +1,9 @@
 // What the call of C for a turn does. sbr_c exports it.
+use sbr_grid::Refusal;
 use sbr_reader::Carried;
 use sbr_run::Place;
-ghost use lib.Dec.{leb, eqb};
-ghost use Rattle.sbr_run.specs.Run.{turn};
-ghost use Rattle.sbr_run.specs.Forms.{turnFrom};
 ghost use Rattle.sbr_form.specs.Given.{Gives};
-ghost use Rattle.c_bits.specs.Calls.{slotted};
-ghost use Rattle.c_send.specs.Turns.{sendOut};
-
-// Numbers of the refusals that are found here.
-const SLOT_COUNT: u32 = 1;
-
-const UNWRITABLE: u32 = 5;
+ghost use Rattle.c_send.specs.Turns.{sendCall, sendOut};
 
 // A transmitter's turn: elects the grid of a frame, writes it at the bit position and moves position and border on.
 pub fn send_frame(
@@ -32,13 +24,13 @@ pub fn send_frame(
     t_q: &mut [u32; 3],
     l_a: &mut i32,
 ) -> u32
-    ensures { λ r. ⌜ Gives (slotted «num_time_slots» (leb «variable_borders» 1) (turn (turnFrom «num_time_slots» (now (high .entry)) (now (low .entry)) (now (samples .entry)) (eqb «variable_borders» 1) (now (bytes .entry)) (record { carried = record { border = now (border .entry) }; position = now (position .entry) })))) sendOut (now (bytes .entry), now (position .entry), now (border .entry), now (transient .entry), (now (numbers .entry), now («freq_res» .entry), now («rel_bord_0» .entry), now («rel_bord_1» .entry)), (now («t_e» .entry), now («t_q» .entry), now («l_a» .entry))) r (now (bytes .exit), now (position .exit), now (border .exit), now (transient .exit), (now (numbers .exit), now («freq_res» .exit), now («rel_bord_0» .exit), now («rel_bord_1» .exit)), (now («t_e» .exit), now («t_q» .exit), now («l_a» .exit))) ⌝ }
+    ensures { λ r. ⌜ Gives (sendCall «num_time_slots» (now (high .entry)) (now (low .entry)) (now (samples .entry)) «variable_borders» (now (bytes .entry)) (now (position .entry)) (now (border .entry))) sendOut (now (bytes .entry), now (position .entry), now (border .entry), now (transient .entry), (now (numbers .entry), now («freq_res» .entry), now («rel_bord_0» .entry), now («rel_bord_1» .entry)), (now («t_e» .entry), now («t_q» .entry), now («l_a» .entry))) r (now (bytes .exit), now (position .exit), now (border .exit), now (transient .exit), (now (numbers .exit), now («freq_res» .exit), now («rel_bord_0» .exit), now («rel_bord_1» .exit)), (now («t_e» .exit), now («t_q» .exit), now («l_a» .exit))) ⌝ }
 {
-    if !sbr_time_grid::is_slot_count(num_time_slots as usize) {
-        return SLOT_COUNT;
+    if !sbr_grid::is_slot_count(num_time_slots as usize) {
+        return Refusal::SlotCount.number();
     }
     if variable_borders > 1 {
-        return UNWRITABLE;
+        return Refusal::Unwritable.number();
     }
     let before = *border;
     let place = Place {

@@ -5,7 +5,7 @@ use libc::STDOUT_FILENO;
 use sbr_grid::FrameClass;
 use sbr_grid::Refusal;
 use sbr_grid::SbrGrid;
-use sbr_time_grid::TimeGrid;
+use sbr_grid::TimeGrid;
 ghost use mathlib.Core.Path.{_≡_};
 ghost use Prim.Native.Nat.{_≤_};
 ghost use lib.ListN.{length};

@@ -8,8 +8,7 @@ use lib.Dec.{leb, ltb, eqb}
 use lib.ListN.{length, replicate}
 use Rattle.sbr_grid.specs.declared.FrameClass.{FrameClass}
 use Rattle.sbr_grid.specs.declared.FrameClass.the-variants.{FixFix, FixVar, VarFix, VarVar}
-use Rattle.sbr_grid.specs.Grid.{first, Grid, made, recordOf, empty}
-use Rattle.sbr_time_grid.specs.TimeGrid.{byClass}
+use Rattle.sbr_grid.specs.Grid.{byClass, noiseOf, first, Grid, made, recordOf, empty}
 use Rattle.sbr_build.specs.declared.Lengths.{Lengths}
 use Rattle.sbr_build.specs.declared.LateAttack.the-variants.{Late, NotLate}
 use Rattle.sbr_build.specs.declared.DoubleAttack.the-variants.{Double, NotDouble}
@@ -24,11 +23,10 @@ lengths l = first 0 (l .count) (l .slots)
 abbrev pub raw : ℕ → ℕ
 raw l = (l - 2) / 2
 
--- k envelopes at one resolution. The noise count is 2, or 1 for one envelope; the amplitude override is set for a single FixFix
--- envelope only.
+-- k envelopes at one resolution. The amplitude override is set for a single FixFix envelope only.
 abbrev pub gridOf : FrameClass → ℕ → Bool → ℕ → ℕ → List ℕ → List ℕ → ℕ → Grid
 gridOf class k high lead over rel0 rel1 p =
-    made class (cond (ltb 1 k) 2 1) (replicate k high) lead over (map raw rel0) (map raw rel1) p
+    made class (noiseOf k) (replicate k high) lead over (map raw rel0) (map raw rel1) p
     (byClass class (eqb k 1) false false false)
 
 unfoldable pub fixfixGrid : ℕ → Bool → Grid

@@ -1,21 +1,12 @@
 // The calls of the C firmware: plain numbers and ranges of bytes, in and out. Each answers 0, or the number of a refusal, and a
 // refused call leaves everything that was lent as it was. What they do stands in c_bits, c_frame and c_send.
-ghost use mathlib.Core.Bool.{_&&_};
-ghost use lib.Dec.{leb, eqb};
 ghost use lib.ListN.{length};
-ghost use mathlib.Core.List.{[]};
-ghost use Rattle.sbr_time_grid.specs.TimeGrid.{timeGrid};
-ghost use Rattle.sbr_writer.specs.Write.{writeGrid};
 ghost use Rattle.sbr_reader.specs.Read.{readGrid};
-ghost use Rattle.sbr_envelopes.specs.Envelopes.{energies};
-ghost use Rattle.sbr_encoder.specs.Election.{elect};
-ghost use Rattle.sbr_run.specs.Run.{turn};
-ghost use Rattle.sbr_run.specs.Forms.{turnFrom};
-ghost use Rattle.sbr_form.specs.Handed.{gridFrom, formed, flagged};
+ghost use Rattle.sbr_form.specs.Handed.{handed};
 ghost use Rattle.sbr_form.specs.Given.{Gives, timeOut};
-ghost use Rattle.c_bits.specs.Calls.{forming, slotted, writeOut, frameOut};
-ghost use Rattle.c_frame.specs.Frames.{electionOut, energyOut};
-ghost use Rattle.c_send.specs.Turns.{sendOut};
+ghost use Rattle.c_bits.specs.Calls.{writeCall, timeCall, writeOut, frameOut};
+ghost use Rattle.c_frame.specs.Frames.{electCall, energyCall, electionOut, energyOut};
+ghost use Rattle.c_send.specs.Turns.{sendCall, sendOut};
 
 // sbr_grid() of a record is written at a bit position, which is moved past it.
 #[no_mangle]
@@ -33,7 +24,7 @@ pub extern "C" fn sbr_write_grid(
     num_rel_1: u64,
     pointer: u32,
 ) -> u32
-    ensures { λ r. ⌜ Gives (forming (formed (record { «frame_class» = «frame_class»; «num_env» = «num_env»; «num_noise» = 0; «var_bord_0» = «var_bord_0»; «var_bord_1» = «var_bord_1»; «num_rel_0» = «num_rel_0»; «num_rel_1» = «num_rel_1»; pointer = pointer }) (now («rel_bord_0» .entry)) (now («rel_bord_1» .entry)) && flagged «num_env» (now («freq_res» .entry))) (writeGrid (now (bytes .entry)) (now (position .entry)) (gridFrom (record { «frame_class» = «frame_class»; «num_env» = «num_env»; «num_noise» = 0; «var_bord_0» = «var_bord_0»; «var_bord_1» = «var_bord_1»; «num_rel_0» = «num_rel_0»; «num_rel_1» = «num_rel_1»; pointer = pointer }) (now («freq_res» .entry)) (now («rel_bord_0» .entry)) (now («rel_bord_1» .entry))))) writeOut (now (bytes .entry), now (position .entry)) r (now (bytes .exit), now (position .exit)) ⌝ }
+    ensures { λ r. ⌜ Gives (writeCall (handed «frame_class» «num_env» 0 «var_bord_0» «var_bord_1» «num_rel_0» «num_rel_1» pointer) (now («freq_res» .entry)) (now («rel_bord_0» .entry)) (now («rel_bord_1» .entry)) (now (bytes .entry)) (now (position .entry))) writeOut (now (bytes .entry), now (position .entry)) r (now (bytes .exit), now (position .exit)) ⌝ }
 {
     c_bits::write_grid(
         bytes,
@@ -69,7 +60,7 @@ pub extern "C" fn sbr_derive_time_grid(
     t_q: &mut [u32; 3],
     l_a: &mut i32,
 ) -> u32
-    ensures { λ r. ⌜ Gives (slotted «num_time_slots» (formed (record { «frame_class» = «frame_class»; «num_env» = «num_env»; «num_noise» = «num_noise»; «var_bord_0» = «var_bord_0»; «var_bord_1» = «var_bord_1»; «num_rel_0» = «num_rel_0»; «num_rel_1» = «num_rel_1»; pointer = pointer }) (now («rel_bord_0» .entry)) (now («rel_bord_1» .entry))) (timeGrid «num_time_slots» (gridFrom (record { «frame_class» = «frame_class»; «num_env» = «num_env»; «num_noise» = «num_noise»; «var_bord_0» = «var_bord_0»; «var_bord_1» = «var_bord_1»; «num_rel_0» = «num_rel_0»; «num_rel_1» = «num_rel_1»; pointer = pointer }) [] (now («rel_bord_0» .entry)) (now («rel_bord_1» .entry))))) timeOut (now («t_e» .entry), now («t_q» .entry), now («l_a» .entry)) r (now («t_e» .exit), now («t_q» .exit), now («l_a» .exit)) ⌝ }
+    ensures { λ r. ⌜ Gives (timeCall «num_time_slots» (handed «frame_class» «num_env» «num_noise» «var_bord_0» «var_bord_1» «num_rel_0» «num_rel_1» pointer) (now («rel_bord_0» .entry)) (now («rel_bord_1» .entry))) timeOut (now («t_e» .entry), now («t_q» .entry), now («l_a» .entry)) r (now («t_e» .exit), now («t_q» .exit), now («l_a» .exit)) ⌝ }
 {
     c_bits::derive_time_grid(
         num_time_slots,
@@ -136,7 +127,7 @@ pub extern "C" fn sbr_elect_grid(
     rel_bord_0: &mut [u8; 4],
     rel_bord_1: &mut [u8; 4],
 ) -> u32
-    ensures { λ r. ⌜ Gives (slotted «num_time_slots» (leb «variable_borders» 1) (elect «num_time_slots» (now (high .entry)) (now (low .entry)) (now (samples .entry)) «previous_border» (eqb «variable_borders» 1))) electionOut (now (transient .entry), (now (numbers .entry), now («freq_res» .entry), now («rel_bord_0» .entry), now («rel_bord_1» .entry))) r (now (transient .exit), (now (numbers .exit), now («freq_res» .exit), now («rel_bord_0» .exit), now («rel_bord_1» .exit))) ⌝ }
+    ensures { λ r. ⌜ Gives (electCall «num_time_slots» (now (high .entry)) (now (low .entry)) (now (samples .entry)) «previous_border» «variable_borders») electionOut (now (transient .entry), (now (numbers .entry), now («freq_res» .entry), now («rel_bord_0» .entry), now («rel_bord_1» .entry))) r (now (transient .exit), (now (numbers .exit), now («freq_res» .exit), now («rel_bord_0» .exit), now («rel_bord_1» .exit))) ⌝ }
 {
     c_frame::elect_grid(
         samples,
@@ -174,7 +165,7 @@ pub extern "C" fn sbr_estimate_envelopes(
     out: &mut [f64],
     count: &mut u64,
 ) -> u32
-    ensures { λ r. ⌜ Gives (slotted «num_time_slots» (formed (record { «frame_class» = «frame_class»; «num_env» = «num_env»; «num_noise» = «num_noise»; «var_bord_0» = «var_bord_0»; «var_bord_1» = «var_bord_1»; «num_rel_0» = «num_rel_0»; «num_rel_1» = «num_rel_1»; pointer = pointer }) (now («rel_bord_0» .entry)) (now («rel_bord_1» .entry)) && flagged «num_env» (now («freq_res» .entry))) (energies «num_time_slots» (now (high .entry)) (now (low .entry)) (now (samples .entry)) (gridFrom (record { «frame_class» = «frame_class»; «num_env» = «num_env»; «num_noise» = «num_noise»; «var_bord_0» = «var_bord_0»; «var_bord_1» = «var_bord_1»; «num_rel_0» = «num_rel_0»; «num_rel_1» = «num_rel_1»; pointer = pointer }) (now («freq_res» .entry)) (now («rel_bord_0» .entry)) (now («rel_bord_1» .entry))) (length (now (out .entry))))) (energyOut (now (out .entry))) (now (out .entry), now (count .entry)) r (now (out .exit), now (count .exit)) ⌝ }
+    ensures { λ r. ⌜ Gives (energyCall «num_time_slots» (now (high .entry)) (now (low .entry)) (now (samples .entry)) (handed «frame_class» «num_env» «num_noise» «var_bord_0» «var_bord_1» «num_rel_0» «num_rel_1» pointer) (now («freq_res» .entry)) (now («rel_bord_0» .entry)) (now («rel_bord_1» .entry)) (length (now (out .entry)))) (energyOut (now (out .entry))) (now (out .entry), now (count .entry)) r (now (out .exit), now (count .exit)) ⌝ }
 {
     c_frame::estimate_envelopes(
         samples,
@@ -217,7 +208,7 @@ pub extern "C" fn sbr_send_frame(
     t_q: &mut [u32; 3],
     l_a: &mut i32,
 ) -> u32
-    ensures { λ r. ⌜ Gives (slotted «num_time_slots» (leb «variable_borders» 1) (turn (turnFrom «num_time_slots» (now (high .entry)) (now (low .entry)) (now (samples .entry)) (eqb «variable_borders» 1) (now (bytes .entry)) (record { carried = record { border = now (border .entry) }; position = now (position .entry) })))) sendOut (now (bytes .entry), now (position .entry), now (border .entry), now (transient .entry), (now (numbers .entry), now («freq_res» .entry), now («rel_bord_0» .entry), now («rel_bord_1» .entry)), (now («t_e» .entry), now («t_q» .entry), now («l_a» .entry))) r (now (bytes .exit), now (position .exit), now (border .exit), now (transient .exit), (now (numbers .exit), now («freq_res» .exit), now («rel_bord_0» .exit), now («rel_bord_1» .exit)), (now («t_e» .exit), now («t_q» .exit), now («l_a» .exit))) ⌝ }
+    ensures { λ r. ⌜ Gives (sendCall «num_time_slots» (now (high .entry)) (now (low .entry)) (now (samples .entry)) «variable_borders» (now (bytes .entry)) (now (position .entry)) (now (border .entry))) sendOut (now (bytes .entry), now (position .entry), now (border .entry), now (transient .entry), (now (numbers .entry), now («freq_res» .entry), now («rel_bord_0» .entry), now («rel_bord_1» .entry)), (now («t_e» .entry), now («t_q» .entry), now («l_a» .entry))) r (now (bytes .exit), now (position .exit), now (border .exit), now (transient .exit), (now (numbers .exit), now («freq_res» .exit), now («rel_bord_0» .exit), now («rel_bord_1» .exit)), (now («t_e» .exit), now («t_q» .exit), now («l_a» .exit))) ⌝ }
 {
     c_send::send_frame(
         samples,

@@ -10,7 +10,8 @@ use lib.ListN.{length}
 use lib.Ieee.Fits.{and-i, and-l, and-r}
 use Rattle.sbr_grid.specs.Refusals.{Outcome, answered, refused}
 use Rattle.sbr_grid.specs.Grid.{Grid}
-use Rattle.sbr_time_grid.specs.TimeGrid.{Times, timeGrid}
+use Rattle.sbr_grid.specs.Times.{Times}
+use Rattle.sbr_time_grid.specs.TimeGrid.{timeGrid}
 use Rattle.sbr_borders.specs.declared.WantedBorder.{WantedBorder}
 use Rattle.sbr_search.specs.Search.{Plan, Best, search, bare, isolated, planGrid, planned, plainWins, multiOnsetGrid}
 use Rattle.sbr_borders.specs.Borders.{shiftCount, places, risesFrom, lastOr, leadingSteps, trailingSteps, allEven, reaches}

@@ -5,7 +5,8 @@ use mathlib.Core.List.{List}
 use mathlib.Core.Option.{Option}
 use Rattle.sbr_grid.specs.Refusals.{Outcome}
 use Rattle.sbr_grid.specs.Grid.{Grid}
-use Rattle.sbr_time_grid.specs.TimeGrid.{Times, timeGrid, slotCount, countsFit, bordersFit, noiseFits, absBordLead, absBordTrail, nRelLead, nRelTrail, relBordLead, sum, listFrom, tE, rises, middleBorder, lA, tQ}
+use Rattle.sbr_grid.specs.Times.{Times, slotCount}
+use Rattle.sbr_time_grid.specs.TimeGrid.{timeGrid, countsFit, bordersFit, noiseFits, absBordLead, absBordTrail, nRelLead, nRelTrail, relBordLead, sum, listFrom, tE, rises, middleBorder, lA, tQ}
 use Rattle.sbr_borders.specs.declared.WantedBorder.{WantedBorder}
 use Rattle.sbr_build.specs.Build.{fixfixGrid, varvarGrid, shares, varfixPlain, segmentsBy, lateAttackVarvar, doubleAttackGrid, fixvarSegs, varfixSegs, fixvarGrid, varfixGrid, variableGrid}
 use Rattle.sbr_search.specs.Search.{tryEnds, tryShifts, tryFrom, Best, search, multiOnsetGrid}

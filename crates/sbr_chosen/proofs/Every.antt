@@ -12,7 +12,8 @@ use lib.IntN.{ℤ, pos, negsuc}
 use lib.ListN.{getD}
 use Rattle.sbr_grid.specs.Refusals.{Outcome, answered, refused}
 use Rattle.sbr_grid.specs.Grid.{Grid, numEnv}
-use Rattle.sbr_time_grid.specs.TimeGrid.{Times, slotCount, timeGrid}
+use Rattle.sbr_grid.specs.Times.{Times, slotCount}
+use Rattle.sbr_time_grid.specs.TimeGrid.{timeGrid}
 use Rattle.sbr_search.specs.Plans.{OnsetsFrom, Case}
 use Rattle.sbr_time_grid.proofs.Laws.{slot-range}
 use Rattle.sbr_plan.specs.Elect.{chosenGrid}

@@ -7,7 +7,8 @@ use lib.IntN.{ℤ, pos, negsuc}
 use lib.ListN.{getD}
 use Rattle.sbr_grid.specs.Refusals.{Outcome, answered, refused}
 use Rattle.sbr_grid.specs.Grid.{Grid, numEnv}
-use Rattle.sbr_time_grid.specs.TimeGrid.{Times, timeGrid}
+use Rattle.sbr_grid.specs.Times.{Times}
+use Rattle.sbr_time_grid.specs.TimeGrid.{timeGrid}
 use Rattle.sbr_search.specs.Plans.{Case}
 use Rattle.sbr_plan.specs.Elect.{chosenGrid}
 

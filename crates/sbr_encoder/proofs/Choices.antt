@@ -14,7 +14,8 @@ use Rattle.sbr_grid.specs.declared.Answer.the-variants.{Given}
 use Rattle.sbr_grid.specs.Refusals.{answered}
 use Rattle.sbr_grid.specs.Grid.{first, Grid, viewOf, recordOf}
 use Rattle.sbr_grid.proofs.Laws.{view-record}
-use Rattle.sbr_time_grid.specs.TimeGrid.{Times, slotCount, timeGrid}
+use Rattle.sbr_grid.specs.Times.{Times, slotCount}
+use Rattle.sbr_time_grid.specs.TimeGrid.{timeGrid}
 use Rattle.sbr_writer.specs.Write.{fieldsFit, classFits}
 use Rattle.sbr_writer.proofs.Facts.{both, fields-told}
 use Rattle.sbr_qmf.specs.Qmf.{Samples as SampleAt}

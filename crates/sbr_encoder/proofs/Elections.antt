@@ -12,12 +12,13 @@ use Rattle.sbr_grid.specs.declared.FrameClass.{FrameClass}
 use Rattle.sbr_grid.specs.declared.FrameClass.the-variants.{FixFix, FixVar, VarFix, VarVar}
 use Rattle.sbr_grid.specs.declared.Refusal.the-variants.{SlotCount, Samples, Tables}
 use Rattle.sbr_grid.specs.Refusals.{Outcome, answered, refused}
-use Rattle.sbr_grid.specs.Grid.{Grid, numEnv}
-use Rattle.sbr_time_grid.specs.TimeGrid.{Times, byClass, slotCount, timeGrid}
+use Rattle.sbr_grid.specs.Grid.{byClass, Grid, numEnv}
+use Rattle.sbr_grid.specs.Times.{Times, slotCount}
+use Rattle.sbr_time_grid.specs.TimeGrid.{timeGrid}
 use Rattle.sbr_time_grid.proofs.Ends.{time-ends}
 use Rattle.sbr_qmf.specs.Qmf.{Samples as SampleAt, columns}
 use Rattle.sbr_energy.specs.Energy.{slotEnergy}
-use Rattle.sbr_reader.proofs.Inverse.{reads-back}
+use Rattle.sbr_parse.proofs.Inverse.{reads-back}
 use Rattle.sbr_search.specs.Plans.{Case}
 use Rattle.sbr_plan.specs.Elect.{chosenGrid}
 use Rattle.sbr_chosen.specs.Chosen.{Sound}

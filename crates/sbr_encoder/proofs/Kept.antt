@@ -8,8 +8,9 @@ use lib.Ieee.Fits.{and-l, and-r}
 use Rattle.sbr_grid.specs.declared.FrameClass.{FrameClass}
 use Rattle.sbr_grid.specs.declared.FrameClass.the-variants.{FixFix, FixVar, VarFix, VarVar}
 use Rattle.sbr_grid.specs.Grid.{classCode, classOf, Grid}
+use Rattle.sbr_grid.proofs.Laws.{class-of-code}
 use Rattle.sbr_writer.specs.Write.{every, writable, fieldsFit, classFits}
-use Rattle.sbr_reader.specs.Inverse.{cleared}
+use Rattle.sbr_parse.specs.Inverse.{cleared}
 use Rattle.sbr_search.specs.Plans.{Case}
 use Rattle.sbr_plan.specs.Elect.{chosenGrid}
 use Rattle.sbr_chosen.proofs.Computed.{chosenOf}
@@ -63,14 +64,8 @@ list-eq [] (y ∷ ys) t = absurd t
 list-eq (x ∷ xs) [] t = absurd t
 list-eq (x ∷ xs) (y ∷ ys) t = rw (eqb→eq x y (and-l (eqb x y) (same-list xs ys) t), list-eq xs ys (and-r (eqb x y) (same-list xs ys) t)) refl
 
-code-class : (c : FrameClass) → classOf (classCode c) ≡ c
-code-class FixFix = refl
-code-class FixVar = refl
-code-class VarFix = refl
-code-class VarVar = refl
-
 class-eq : (a b : FrameClass) → T (eqb (classCode a) (classCode b)) → a ≡ b
-class-eq a b t = sym (code-class a) ∙ ap classOf (eqb→eq (classCode a) (classCode b) t) ∙ code-class b
+class-eq a b t = sym (class-of-code a) ∙ ap classOf (eqb→eq (classCode a) (classCode b) t) ∙ class-of-code b
 
 same-eq : (a b : Grid) → T (same a b) → a ≡ b
 unfolding same

@@ -9,7 +9,7 @@ use Rattle.sbr_grid.specs.declared.FrameClass.the-variants.{FixFix, FixVar, Var
 use Rattle.sbr_grid.specs.Grid.{Grid}
 use Rattle.sbr_time_grid.specs.TimeGrid.{timeGrid, countsFit, bordersFit, noiseFits, absBordLead, absBordTrail, nRelLead, nRelTrail, relBordLead, tE, middleBorder, lA, tQ}
 use Rattle.sbr_writer.specs.Write.{writable, fieldsFit, classFits}
-use Rattle.sbr_reader.specs.Inverse.{clearedAs, cleared}
+use Rattle.sbr_parse.specs.Inverse.{clearedAs, cleared}
 use Rattle.sbr_encoder.specs.Election.{withFreqRes}
 
 module _ (n : ℕ) (fs : List Bool) (g : Grid) (e : length fs ≡ length (g .freqRes)) where

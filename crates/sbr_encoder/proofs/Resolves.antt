@@ -11,9 +11,9 @@ use Rattle.sbr_grid.proofs.FrameClass.{the-type}
 use Rattle.sbr_grid.specs.declared.FrameClass.{FrameClass}
 use Rattle.sbr_grid.specs.declared.FrameClass.the-variants.{FixFix, FixVar, VarFix, VarVar}
 use Rattle.sbr_grid.specs.declared.SbrGrid.{SbrGrid}
-use Rattle.sbr_grid.specs.Grid.{first, viewOf, recordOf}
+use Rattle.sbr_grid.specs.Grid.{byClass, first, viewOf, recordOf}
 use Rattle.sbr_grid.proofs.Laws.{lengths}
-use Rattle.sbr_time_grid.specs.TimeGrid.{Times, byClass}
+use Rattle.sbr_grid.specs.Times.{Times}
 use Rattle.sbr_qmf.specs.Qmf.{Samples as SampleAt}
 use Rattle.sbr_bands.specs.Tables.{spans}
 use Rattle.sbr_resolution.specs.Resolution.{electFreqRes}

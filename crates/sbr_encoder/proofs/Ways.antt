@@ -9,7 +9,7 @@ use lib.ListN.{length}
 use lib.Ieee.{Float}
 use Rattle.sbr_grid.specs.declared.Refusal.the-variants.{SlotCount, Samples, Tables}
 use Rattle.sbr_grid.specs.Refusals.{answered, refused}
-use Rattle.sbr_time_grid.specs.TimeGrid.{slotCount}
+use Rattle.sbr_grid.specs.Times.{slotCount}
 use Rattle.sbr_qmf.specs.Qmf.{columns}
 use Rattle.sbr_bands.specs.Tables.{tablesFit}
 use Rattle.sbr_envelopes.specs.Envelopes.{samplesNeeded}

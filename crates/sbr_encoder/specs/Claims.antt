@@ -8,10 +8,11 @@ use lib.ListN.{getD}
 use lib.Ieee.{Float}
 use Rattle.sbr_grid.specs.Refusals.{answered}
 use Rattle.sbr_grid.specs.Grid.{Grid, numEnv}
-use Rattle.sbr_time_grid.specs.TimeGrid.{Times, timeGrid}
+use Rattle.sbr_grid.specs.Times.{Times}
+use Rattle.sbr_time_grid.specs.TimeGrid.{timeGrid}
 use Rattle.sbr_writer.specs.Syntax.{gridBits}
 use Rattle.sbr_writer.specs.Write.{writable}
-use Rattle.sbr_reader.specs.Syntax.{sbrGrid}
+use Rattle.sbr_parse.specs.Syntax.{sbrGrid}
 use Rattle.sbr_onsets.specs.Onsets.{leadOf}
 use Rattle.sbr_encoder.specs.Election.{Elected, elect}
 

@@ -8,8 +8,9 @@ use lib.ListN.{length}
 use lib.Ieee.{Float}
 use Rattle.sbr_grid.specs.declared.Refusal.the-variants.{SlotCount, Samples, Tables}
 use Rattle.sbr_grid.specs.Refusals.{Outcome, answered, refused, answerOf, valueOr}
-use Rattle.sbr_grid.specs.Grid.{Grid, made, recordOf, empty}
-use Rattle.sbr_time_grid.specs.TimeGrid.{Times, byClass, slotCount, timeGrid}
+use Rattle.sbr_grid.specs.Grid.{byClass, Grid, made, recordOf, empty}
+use Rattle.sbr_grid.specs.Times.{Times, slotCount}
+use Rattle.sbr_time_grid.specs.TimeGrid.{timeGrid}
 use Rattle.sbr_qmf.specs.Qmf.{Samples as SampleAt, columns}
 use Rattle.sbr_energy.specs.Energy.{slotEnergy}
 use Rattle.sbr_plan.specs.Elect.{chosenGrid, fallbackGrid}

@@ -9,7 +9,8 @@ ghost use Prim.Native.Nat.{ℕ, _+_};
 ghost use lib.ListN.{getD};
 ghost use Rattle.sbr_grid.specs.Refusals.{answered, refused};
 ghost use Rattle.sbr_grid.specs.Grid.{recordOf, viewOf};
-ghost use Rattle.sbr_time_grid.specs.TimeGrid.{Times, slotCount, timeGrid};
+ghost use Rattle.sbr_grid.specs.Times.{Times, slotCount};
+ghost use Rattle.sbr_time_grid.specs.TimeGrid.{timeGrid};
 ghost use Rattle.sbr_qmf.specs.Qmf.{columns};
 ghost use Rattle.sbr_energy.specs.Floats.{zero64};
 ghost use Rattle.sbr_energy.specs.Energy.{slotEnergies};
@@ -122,7 +123,7 @@ pub fn elect_grid(
 ) -> Election
     ensures { λ r. ⌜ r ≡ electionOf (elect «num_time_slots» (now (high .entry)) (now (low .entry)) (now (x .entry)) «t_e_last_prev» «variable_borders») ⌝ }
 {
-    if !sbr_time_grid::is_slot_count(num_time_slots) {
+    if !sbr_grid::is_slot_count(num_time_slots) {
         return refusal(Refusal::SlotCount);
     }
     if !sbr_bands::tables_fit(high, low) {

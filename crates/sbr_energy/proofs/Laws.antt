@@ -7,11 +7,11 @@ use native.Mathlib.Decide.{ℕ-discrete}
 use native.Mathlib.Omega.{arith}
 use native.Mathlib.Nat.{sub-zero, not-suc-le-zero, le-of-suc-le-suc, eq-or-lt-of-le}
 use native.Mathlib.Numerals.{add-one}
-use lib.ListN.{length, set, getD, replicate, length-append, length-replicate}
+use lib.ListN.{length, set, getD, replicate, length-append}
 use lib.Seq.{set-at, set-set, getD-at}
 use lib.Ieee as Ieee
 use lib.Ieee.{Float, binary64}
-use Rattle.sbr_qmf.specs.Qmf.{Samples, normSqr}
+use Rattle.sbr_qmf.specs.Qmf.{Samples}
 use Rattle.sbr_energy.specs.Floats.{total, zero64}
 use Rattle.sbr_energy.specs.Energy.{bandSum, slotEnergy, listOf, slotEnergies}
 
@@ -24,28 +24,6 @@ total-none f = refl
 pub total-more : (f : ℕ → Float) (n : ℕ) (sum v : Float) → sum ≡ total f n → v ≡ f n → Ieee.add binary64 sum v ≡ total f (n + 1)
 unfolding total
 total-more f n sum v p q = rw (add-one n, p, q)
-
--- no band of a column is summed yet
-pub band-none : (x : Samples) (k c : ℕ) → zero64 ≡ bandSum x k k c
-band-none x k c =
-    let e : k - k ≡ 0 = omega arith in
-    rw e (total-none _)
-
--- one band more
-pub band-more : (x : Samples) (kl k c : ℕ) (sum v : Float) → kl ≤ k → sum ≡ bandSum x kl k c → v ≡ normSqr (x c k)
-    → Ieee.add binary64 sum v ≡ bandSum x kl (k + 1) c
-band-more x kl k c sum v h p q =
-    let e : k + 1 - kl ≡ k - kl + 1 = omega arith in
-    let d : kl + (k - kl) ≡ k = omega arith in
-    rw e (total-more _ _ _ _ p (rw d q))
-
--- two numbers more a turn, of those from place c on
-pub total-two : (g : ℕ → Float) (c i : ℕ) (sum a b : Float) → sum ≡ total (λ j. g (c + j)) (2 * i) → a ≡ g (c + 2 * i) → b ≡ g (c + 2 * i + 1)
-    → Ieee.add binary64 (Ieee.add binary64 sum a) b ≡ total (λ j. g (c + j)) (2 * (i + 1))
-total-two g c i sum a b p q r =
-    let e : 2 * (i + 1) ≡ 2 * i + 1 + 1 = omega arith in
-    let d : c + 2 * i + 1 ≡ c + (2 * i + 1) = omega arith in
-    rw e (total-more _ _ _ _ (total-more _ _ _ _ p q) (rw d at r))
 
 -- a slot's energy out of the sums of its two columns
 pub slot-is : (x : Samples) (kl kh s : ℕ) (a b : Float) → a ≡ bandSum x kl kh (2 * s + 2) → b ≡ bandSum x kl kh (2 * s + 2 + 1)
@@ -95,11 +73,6 @@ list-at f (suc n) i rest d h =
     ] in
     rw append-assoc here
 
-module _ (x : Samples) (kl kh n : ℕ) where
-  -- the array of energies has 24 places
-  pub energies-length : n ≤ 24 → length (slotEnergies x kl kh n) ≡ 24
-  energies-length h = rw (length-append, list-length, length-replicate) (omega arith)
-
-  -- its place s holds the energy of slot s
-  pub energies-at : (s : ℕ) (d : Float) → s < n → getD (slotEnergies x kl kh n) s d ≡ slotEnergy x kl kh s
-  energies-at s d h = list-at (slotEnergy x kl kh) n s _ d h
+-- place s of the array of energies holds the energy of slot s
+pub energies-at : (x : Samples) (kl kh n s : ℕ) (d : Float) → s < n → getD (slotEnergies x kl kh n) s d ≡ slotEnergy x kl kh s
+energies-at x kl kh n s d h = list-at (slotEnergy x kl kh) n s _ d h

@@ -25,8 +25,10 @@ listOf f (suc n) = listOf f n ++ (f n ∷ [])
 abbrev pub slotEnergies : Samples → ℕ → ℕ → ℕ → List Float
 slotEnergies x kl kh n = listOf (slotEnergy x kl kh) n ++ replicate (24 - n) zero64
 
--- the mean of the bands kl to kh over the slots t0 to t1: the columns 2 t0 + 2 up to, not including, 2 t1 + 2
+-- the sum of the bands kl to kh over the slots t0 to t1: the columns 2 t0 + 2 up to, not including, 2 t1 + 2, one after another
+abbrev pub bandTotal : Samples → ℕ → ℕ → ℕ → ℕ → Float
+bandTotal x t0 t1 kl kh = total (λ j. bandSum x kl kh (2 * t0 + 2 + j)) (2 * t1 + 2 - (2 * t0 + 2))
+
+-- and their mean
 abbrev pub bandMean : Samples → ℕ → ℕ → ℕ → ℕ → Float
-bandMean x t0 t1 kl kh =
-    let columns = 2 * t1 + 2 - (2 * t0 + 2) in
-    meanOf (total (λ j. bandSum x kl kh (2 * t0 + 2 + j)) columns) (columns * (kh - kl))
+bandMean x t0 t1 kl kh = meanOf (bandTotal x t0 t1 kl kh) ((2 * t1 + 2 - (2 * t0 + 2)) * (kh - kl))

@@ -59,21 +59,21 @@ pub struct Sums {
     pub d: f64,
 }
 
-// The sums of the bands kl to kh of the columns c and c + 1, and of e and e + 1, side by side.
-pub fn band_sums(x: &[f64], kl: usize, kh: usize, c: usize, e: usize) -> Sums
-    requires { ⌜ (kl ≤ kh) × (kh ≤ 64) × ((c + 2) * 128 ≤ length (now x)) × ((e + 2) * 128 ≤ length (now x)) ⌝ }
-    ensures { λ r. ⌜ (r .a ≡ bandSum (columns (now (x .entry))) kl kh c) × (r .b ≡ bandSum (columns (now (x .entry))) kl kh (c + 1)) ⌝ }
-    ensures { λ r. ⌜ (r .c ≡ bandSum (columns (now (x .entry))) kl kh e) × (r .d ≡ bandSum (columns (now (x .entry))) kl kh (e + 1)) ⌝ }
+// The sums of w bands of four columns side by side: from band k on of the columns c and c + 1, from band m on of e and e + 1.
+pub fn band_sums(x: &[f64], w: usize, c: usize, k: usize, e: usize, m: usize) -> Sums
+    requires { ⌜ (k + w ≤ 64) × (m + w ≤ 64) × ((c + 2) * 128 ≤ length (now x)) × ((e + 2) * 128 ≤ length (now x)) ⌝ }
+    ensures { λ r. ⌜ (r .a ≡ bandSum (columns (now (x .entry))) k (k + w) c) × (r .b ≡ bandSum (columns (now (x .entry))) k (k + w) (c + 1)) ⌝ }
+    ensures { λ r. ⌜ (r .c ≡ bandSum (columns (now (x .entry))) m (m + w) e) × (r .d ≡ bandSum (columns (now (x .entry))) m (m + w) (e + 1)) ⌝ }
 {
     let mut a = 0.0;
     let mut b = 0.0;
     let mut s = 0.0;
     let mut t = 0.0;
-    for k in kl..kh {
-        a = a + samples::energy(x, c, k);
-        b = b + samples::energy(x, c + 1, k);
-        s = s + samples::energy(x, e, k);
-        t = t + samples::energy(x, e + 1, k);
+    for i in 0..w {
+        a = a + samples::energy(x, c, k + i);
+        b = b + samples::energy(x, c + 1, k + i);
+        s = s + samples::energy(x, e, m + i);
+        t = t + samples::energy(x, e + 1, m + i);
     }
     Sums {
         a: a,
@@ -92,7 +92,7 @@ pub fn slot_energies(x: &[f64], n: usize, kl: usize, kh: usize) -> [f64; 24]
     let mut s = 0;
     while s < n {
         let last = if s + 1 < n { s + 1 } else { s };
-        let sums = band_sums(x, kl, kh, 2 * s + 2, 2 * last + 2);
+        let sums = band_sums(x, kh - kl, 2 * s + 2, kl, 2 * last + 2, kl);
         out[s] = 0.0 + sums.a + sums.b;
         out[last] = 0.0 + sums.c + sums.d;
         s = last + 1;

@@ -2,14 +2,15 @@
 use sbr_grid::Answer;
 use sbr_grid::Refusal;
 use sbr_grid::SbrGrid;
-use sbr_time_grid::TimeGrid;
+use sbr_grid::TimeGrid;
 ghost use mathlib.Core.Path.{_≡_};
 ghost use mathlib.Core.Bool.{true, false};
 ghost use Prim.Native.Nat.{ℕ, _+_, _-_, _≤_, _<_};
 ghost use lib.ListN.{length, getD};
 ghost use Rattle.sbr_grid.specs.Refusals.{answered};
 ghost use Rattle.sbr_grid.specs.Grid.{first, viewOf};
-ghost use Rattle.sbr_time_grid.specs.TimeGrid.{slotCount, timeGrid};
+ghost use Rattle.sbr_grid.specs.Times.{slotCount};
+ghost use Rattle.sbr_time_grid.specs.TimeGrid.{timeGrid};
 ghost use Rattle.sbr_qmf.specs.Qmf.{columns};
 ghost use Rattle.sbr_bands.specs.Tables.{tablesFit, spans};
 ghost use Rattle.sbr_resolution.specs.Resolution.{Ready};
@@ -131,7 +132,7 @@ pub fn estimate_envelopes(
     ensures { λ r. ⌜ r ≡ estimatedOf (energies «num_time_slots» (now (high .entry)) (now (low .entry)) (now (x .entry)) (viewOf grid) (length (now (out .entry)))) ⌝ }
     ensures { λ r. ⌜ now (out .exit) ≡ numbersAfter (now (out .entry)) (energies «num_time_slots» (now (high .entry)) (now (low .entry)) (now (x .entry)) (viewOf grid) (length (now (out .entry)))) ⌝ }
 {
-    if !sbr_time_grid::is_slot_count(num_time_slots) {
+    if !sbr_grid::is_slot_count(num_time_slots) {
         return Estimated::Refused(Refusal::SlotCount);
     }
     if !sbr_bands::tables_fit(high, low) {

@@ -9,12 +9,10 @@ use Rattle.bits.specs.Bits.{bitN}
 use Rattle.sbr_grid.specs.declared.SbrGrid.{SbrGrid}
 use Rattle.sbr_grid.specs.declared.Refusal.{Refusal}
 use Rattle.sbr_grid.specs.declared.Refusal.the-variants.{SlotCount, Samples, Tables, Room, Unwritable, TimeGrid as NoTimes, BitsEnd, EnvelopeCount, Chain}
-use Rattle.sbr_grid.specs.declared.Answer.{Answer}
-use Rattle.sbr_grid.specs.declared.Answer.the-variants.{Given, Refused}
 use Rattle.sbr_grid.specs.Refusals.{Outcome, answered, refused, numberOf, answerOf}
 use Rattle.sbr_grid.specs.Grid.{first, viewOf, recordOf, Grid}
 use Rattle.sbr_grid.proofs.Laws.{lengths}
-use Rattle.sbr_time_grid.specs.declared.TimeGrid.{TimeGrid}
+use Rattle.sbr_grid.specs.declared.TimeGrid.{TimeGrid}
 use Rattle.sbr_form.specs.Given.{Gives, codeOf, numbersOf, recordOut}
 
 -- no refusal has the number 0
@@ -29,28 +27,15 @@ numbered BitsEnd h = omega arith
 numbered EnvelopeCount h = omega arith
 numbered Chain h = omega arith
 
--- r is the number that a program gives of the answer s
-abbrev pub Code : Answer → ℕ → Type 0
-Code s r = (s ≡ Given → r ≡ 0) × ((e : Refusal) → s ≡ Refused e → r ≡ numberOf e)
-
--- r is the number of what a call comes to
-pub record Coded {A : Type 0} (o : Outcome A) (r : ℕ) : Type 0 where
-  pub is : r ≡ codeOf o
-
 module _ {A : Type 0} where
-  -- that is the number that a program gives of its answer
-  pub coded : (o : Outcome A) (s : Answer) (r : ℕ) → s ≡ answerOf o → Code s r → Coded o r
-  coded (answered a) s r h k = record { is = k .0 h }
-  coded (refused e) s r h k = record { is = k .1 e h }
-
   -- a call whose number is 0 has answered
-  pub has-answered : (o : Outcome A) → Coded o 0 → (a : A) × (o ≡ answered a)
+  pub has-answered : (o : Outcome A) → 0 ≡ codeOf (answerOf o) → (a : A) × (o ≡ answered a)
   has-answered (answered a) k = (a, refl)
-  has-answered (refused e) k = absurd (numbered e (sym (k .is)))
+  has-answered (refused e) k = absurd (numbered e (sym k))
 
   -- any other has refused
-  pub has-refused : (o : Outcome A) (r : ℕ) → Coded o r → (r ≡ 0 → ⊥) → (e : Refusal) × (o ≡ refused e)
-  has-refused (answered a) r k n = absurd (n (k .is))
+  pub has-refused : (o : Outcome A) (r : ℕ) → r ≡ codeOf (answerOf o) → (r ≡ 0 → ⊥) → (e : Refusal) × (o ≡ refused e)
+  has-refused (answered a) r k n = absurd (n k)
   has-refused (refused e) r k n = (e, refl)
 
 -- an answer, and what stands in the outputs is that answer
@@ -65,8 +50,8 @@ module _ {A B : Type 0} {o : Outcome A} (f : A → B) (before : B) where
   gives-refused e r n h = rw h (record { code = n; outputs = refl })
 
   -- so does a call that comes to p, which has a number other than 0
-  pub gives-coded : {p : Outcome A} (r : ℕ) → Coded p r → (r ≡ 0 → ⊥) → o ≡ p → Gives o f before r before
-  gives-coded {p} r k n h = let e = has-refused p r k n in gives-refused (e .0) r (k .is ∙ ap codeOf (e .1)) (h ∙ e .1)
+  pub gives-coded : {p : Outcome A} (r : ℕ) → r ≡ codeOf (answerOf p) → (r ≡ 0 → ⊥) → o ≡ p → Gives o f before r before
+  gives-coded {p} r k n h = let e = has-refused p r k n in gives-refused (e .0) r (k ∙ ap (λ q. codeOf (answerOf q)) (e .1)) (h ∙ e .1)
 
   -- one that comes to p, an answer, gives 0 and its outputs
   pub gives-answered : {p : Outcome A} (after : B) → Out p f after → o ≡ p → Gives o f before 0 after

@@ -1,6 +1,6 @@
 -- Laws of the record that is formed of what C hands in.
 use mathlib.Core.Path.{_≡_, refl, sym}
-use mathlib.Core.Bool.{Bool, true, false, and-eq-true-iff}
+use mathlib.Core.Bool.{true, false, and-eq-true-iff}
 use mathlib.Core.List.{List, [], _∷_}
 use Prim.Native.Nat.{ℕ, zero, suc, _≤_, _<_}
 use native.Mathlib.Omega.{arith}
@@ -8,9 +8,10 @@ use borrow.Author.Tests.{leb-true, le-leb}
 use lib.Dec.{leb}
 use lib.ListN.{length, getD, drop, List·getD-eq-default}
 use lib.Seq.{drop-nil}
-use Rattle.sbr_grid.specs.Grid.{first}
+use Rattle.sbr_grid.specs.Grid.{first, empty}
 use Rattle.sbr_grid.proofs.Laws.{length-first, getD-first}
 use Rattle.sbr_form.specs.declared.Handed.{Handed}
+use Rattle.sbr_form.specs.declared.Formed.{Formed}
 use Rattle.sbr_form.specs.Handed.{formed}
 use Rattle.sbr_form.specs.Form.{Bytes}
 
@@ -56,6 +57,6 @@ formed-last h rel0 rel1 f =
     let b = f .bytes in
     rw (le-leb _ 3 (f .class), le-leb _ 255 (b .bord0), le-leb _ 255 (b .bord1), le-leb _ 255 (b .pointer), le-leb _ _ (f .leading))
 
--- what could not be formed says so, and no more
-pub none-formed : {P : Type 0} (b ok : Bool) → b ≡ false → ok ≡ false → (b ≡ ok) × (b ≡ true → P)
-none-formed b ok e f = (cc, λ t. absurd (let z : _≡_ {A = ℕ} 0 1 = cc in omega arith))
+-- nothing formed, and the empty record: there is one such value
+pub none-formed : (r : Formed) → (r .«is_formed» ≡ false) × (r .grid ≡ empty) → r ≡ record { «is_formed» = false; grid = empty }
+none-formed r e = rw (← e .1, ← e .0)

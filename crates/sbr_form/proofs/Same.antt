@@ -9,7 +9,8 @@ use Rattle.sbr_grid.specs.declared.Refusal.the-variants.{SlotCount, Unwritable,
 use Rattle.sbr_grid.specs.Refusals.{refused}
 use Rattle.sbr_grid.specs.Grid.{viewOf, recordOf, Grid, numEnv}
 use Rattle.sbr_grid.proofs.Laws.{view-record, lengths}
-use Rattle.sbr_time_grid.specs.TimeGrid.{slotCount, countsFit, timeGrid}
+use Rattle.sbr_grid.specs.Times.{slotCount}
+use Rattle.sbr_time_grid.specs.TimeGrid.{countsFit, timeGrid}
 use Rattle.sbr_time_grid.proofs.Laws.{counts}
 use Rattle.sbr_writer.specs.Write.{fieldsFit, writeGrid}
 use Rattle.sbr_writer.proofs.Facts.{fields-told}

@@ -6,17 +6,19 @@ use Prim.Native.Nat.{ℕ}
 use lib.IntN.{ℤ}
 use lib.ListN.{length}
 use Rattle.bits.specs.Bits.{bitN}
-use Rattle.sbr_grid.specs.Refusals.{Outcome, answered, refused, numberOf, valueOr}
+use Rattle.sbr_grid.specs.declared.Answer.{Answer}
+use Rattle.sbr_grid.specs.declared.Answer.the-variants.{Given, Refused}
+use Rattle.sbr_grid.specs.Refusals.{Outcome, answerOf, numberOf, valueOr}
 use Rattle.sbr_grid.specs.Grid.{classCode, first, Grid}
-use Rattle.sbr_time_grid.specs.TimeGrid.{Times}
+use Rattle.sbr_grid.specs.Times.{Times}
 
-abbrev pub codeOf : {A : Type 0} → Outcome A → ℕ
-codeOf (answered a) = 0
-codeOf (refused e) = numberOf e
+abbrev pub codeOf : Answer → ℕ
+codeOf Given = 0
+codeOf (Refused e) = numberOf e
 
 -- what a call that comes to o leaves: its number r, and its outputs, which are as before where it is refused
 pub record Gives {A B : Type 0} (o : Outcome A) (f : A → B) (before : B) (r : ℕ) (after : B) : Type 0 where
-  pub code : r ≡ codeOf o
+  pub code : r ≡ codeOf (answerOf o)
   pub outputs : after ≡ valueOr f before o
 
 -- class, envelopes, noise floors, border bytes, counts of the lists, pointer, amplitude override

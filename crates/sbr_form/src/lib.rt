@@ -1,19 +1,17 @@
 // A record from what C hands in, and what C is given of one.
 use sbr_grid::Answer;
 use sbr_grid::FrameClass;
-use sbr_grid::Refusal;
 use sbr_grid::SbrGrid;
-use sbr_time_grid::TimeGrid;
+use sbr_grid::TimeGrid;
 ghost use mathlib.Core.Path.{_≡_};
-ghost use mathlib.Core.Bool.{true, false, _&&_};
+ghost use mathlib.Core.Bool.{false};
 ghost use mathlib.Core.List.{map, []};
 ghost use lib.Dec.{eqb};
 ghost use lib.ListN.{getD};
 ghost use Rattle.bits.specs.Bits.{bitN};
-ghost use Rattle.sbr_grid.specs.Refusals.{numberOf};
-ghost use Rattle.sbr_grid.specs.Grid.{first, viewOf, recordOf};
-ghost use Rattle.sbr_form.specs.Handed.{gridFrom, formed, flagged};
-ghost use Rattle.sbr_form.specs.Given.{numbersOf};
+ghost use Rattle.sbr_grid.specs.Grid.{first, viewOf, recordOf, empty};
+ghost use Rattle.sbr_form.specs.Handed.{gridFrom, formed, flagged, formable, formedOf};
+ghost use Rattle.sbr_form.specs.Given.{codeOf, numbersOf};
 ghost use Rattle.sbr_form.specs.Form.{Bytes, Few};
 
 // How many numbers C is given of a record.
@@ -151,6 +149,7 @@ pub struct Formed {
 // Nothing could be formed.
 fn unformed() -> Formed
     ensures { λ r. ⌜ r .«is_formed» ≡ false ⌝ }
+    ensures { λ r. ⌜ r .grid ≡ empty ⌝ }
 {
     Formed {
         is_formed: false,
@@ -160,8 +159,7 @@ fn unformed() -> Formed
 
 // The record that was handed in, with its flags.
 pub fn form_record(h: Handed, freq_res: &[u8], rel_bord_0: &[u8], rel_bord_1: &[u8]) -> Formed
-    ensures { λ r. ⌜ r .«is_formed» ≡ (formed h (now («rel_bord_0» .entry)) (now («rel_bord_1» .entry)) && flagged (h .«num_env») (now («freq_res» .entry))) ⌝ }
-    ensures { λ r. ⌜ (r .«is_formed» ≡ true → r .grid ≡ recordOf (gridFrom h (now («freq_res» .entry)) (now («rel_bord_0» .entry)) (now («rel_bord_1» .entry)))) ⌝ }
+    ensures { λ r. ⌜ r ≡ formedOf (formable h (now («freq_res» .entry)) (now («rel_bord_0» .entry)) (now («rel_bord_1» .entry))) (gridFrom h (now («freq_res» .entry)) (now («rel_bord_0» .entry)) (now («rel_bord_1» .entry))) ⌝ }
 {
     if !is_formed(h, rel_bord_0, rel_bord_1) {
         return unformed();
@@ -177,8 +175,7 @@ pub fn form_record(h: Handed, freq_res: &[u8], rel_bord_0: &[u8], rel_bord_1: &[
 
 // The record that was handed in without flags.
 pub fn form_borders(h: Handed, rel_bord_0: &[u8], rel_bord_1: &[u8]) -> Formed
-    ensures { λ r. ⌜ r .«is_formed» ≡ formed h (now («rel_bord_0» .entry)) (now («rel_bord_1» .entry)) ⌝ }
-    ensures { λ r. ⌜ (r .«is_formed» ≡ true → r .grid ≡ recordOf (gridFrom h [] (now («rel_bord_0» .entry)) (now («rel_bord_1» .entry)))) ⌝ }
+    ensures { λ r. ⌜ r ≡ formedOf (formed h (now («rel_bord_0» .entry)) (now («rel_bord_1» .entry))) (gridFrom h [] (now («rel_bord_0» .entry)) (now («rel_bord_1» .entry))) ⌝ }
 {
     if !is_formed(h, rel_bord_0, rel_bord_1) {
         return unformed();
@@ -191,8 +188,7 @@ pub fn form_borders(h: Handed, rel_bord_0: &[u8], rel_bord_1: &[u8]) -> Formed
 
 // What a call answers C: 0, or the number of a refusal.
 pub fn code_of(answer: Answer) -> u32
-    ensures { λ r. ⌜ (answer ≡ Answer.Given → r ≡ 0) ⌝ }
-    ensures { λ r. ⌜ ((e : Refusal) → answer ≡ Answer.Refused e → r ≡ numberOf e) ⌝ }
+    ensures { λ r. ⌜ r ≡ codeOf answer ⌝ }
 {
     match answer {
         Answer::Given => 0,

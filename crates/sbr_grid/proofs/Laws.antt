@@ -6,9 +6,22 @@ use Prim.Native.Nat.{ℕ, zero, suc, _≤_, _<_}
 use native.Mathlib.Omega.{arith}
 use lib.ListN.{length, getD, take}
 use Rattle.sbr_grid.specs.declared.FrameClass.{FrameClass}
-use Rattle.sbr_grid.specs.declared.FrameClass.the-variants.{VarVar}
+use Rattle.sbr_grid.specs.declared.FrameClass.the-variants.{FixFix, FixVar, VarFix, VarVar}
 use Rattle.sbr_grid.specs.declared.SbrGrid.{SbrGrid}
-use Rattle.sbr_grid.specs.Grid.{classOf, first, Grid, numEnv, viewOf, recordOf}
+use Rattle.sbr_grid.specs.Grid.{classCode, classOf, first, Grid, numEnv, viewOf, recordOf}
+
+-- a class has a number below 4, which has that class
+pub class-of-code : (c : FrameClass) → classOf (classCode c) ≡ c
+class-of-code FixFix = refl
+class-of-code FixVar = refl
+class-of-code VarFix = refl
+class-of-code VarVar = refl
+
+pub code-lt : (c : FrameClass) → classCode c < 4
+code-lt FixFix = omega arith
+code-lt FixVar = omega arith
+code-lt VarFix = omega arith
+code-lt VarVar = omega arith
 
 pub class-rest : (v : ℕ) → (v ≡ 0 → ⊥) → (v ≡ 1 → ⊥) → (v ≡ 2 → ⊥) → VarVar ≡ classOf v
 class-rest zero a b c = absurd (a refl)

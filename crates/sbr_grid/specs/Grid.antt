@@ -3,18 +3,22 @@
 use mathlib.Core.Bool.{Bool, true, false, cond, _&&_}
 use mathlib.Core.List.{List, [], _∷_}
 use Prim.Native.Nat.{ℕ, zero, suc, _+_, _^_, _≤_}
-use lib.Dec.{leb}
+use lib.Dec.{leb, ltb}
 use lib.ListN.{length, replicate}
 use Rattle.sbr_grid.specs.declared.FrameClass.{FrameClass}
 use Rattle.sbr_grid.specs.declared.FrameClass.the-variants.{FixFix, FixVar, VarFix, VarVar}
 use Rattle.sbr_grid.specs.declared.SbrGrid.{SbrGrid}
 
+-- a row of the standard's tables: the entries of FIXFIX, FIXVAR, VARFIX, VARVAR
+abbrev pub byClass : {A : Type 0} → FrameClass → A → A → A → A → A
+byClass FixFix a b c d = a
+byClass FixVar a b c d = b
+byClass VarFix a b c d = c
+byClass VarVar a b c d = d
+
 -- the number of a class (bs_frame_class), and the class of a number
 abbrev pub classCode : FrameClass → ℕ
-classCode FixFix = 0
-classCode FixVar = 1
-classCode VarFix = 2
-classCode VarVar = 3
+classCode c = byClass c 0 1 2 3
 
 abbrev pub classOf : ℕ → FrameClass
 classOf zero = FixFix
@@ -42,6 +46,10 @@ PointerWidth = (n : ℕ) → CeilLog n (ptrBits n)
 -- the width that the program's table has: that of 1 to 5 envelopes, 0 for any other count
 unfoldable pub tableWidth : ℕ → ℕ
 tableWidth n = cond (leb 1 n && leb n 5) (ptrBits n) 0
+
+-- L_Q, the noise floors of n envelopes
+abbrev pub noiseOf : ℕ → ℕ
+noiseOf n = cond (ltb 1 n) 2 1
 
 -- the first n of xs; d where xs has no more
 abbrev pub first : {A : Type 0} → A → ℕ → List A → List A

@@ -1,8 +1,9 @@
-// The grid record of src/sbr_grid.rs, with its limits, and the refusals of every call.
+// The grid record of src/sbr_grid.rs, with its limits, the record of its time grid, and the refusals of every call.
 ghost use mathlib.Core.Path.{_≡_};
 ghost use Prim.Native.Nat.{ℕ, _+_, _≤_, _<_};
 ghost use Rattle.sbr_grid.specs.Refusals.{numberOf};
 ghost use Rattle.sbr_grid.specs.Grid.{classCode, classOf, empty, tableWidth};
+ghost use Rattle.sbr_grid.specs.Times.{slotCount, emptyTime};
 
 // bs_frame_class.
 pub enum FrameClass {
@@ -157,4 +158,42 @@ impl Refusal {
 pub enum Answer {
     Given,
     Refused(Refusal),
+}
+
+// The borders of a frame. Places past a count are zero.
+pub struct TimeGrid {
+    // The envelopes; there is one border more.
+    pub num_env: usize,
+    pub t_e: [u32; TimeGrid::MAX_BORDERS],
+    // The noise floors; there is one noise border more.
+    pub num_noise: usize,
+    pub t_q: [u32; TimeGrid::MAX_NOISE_BORDERS],
+    // The marked envelope; -1 for none.
+    pub l_a: i32,
+}
+
+impl TimeGrid {
+    pub const MAX_BORDERS: usize = SbrGrid::MAX_NUM_ENV + 1;
+
+    pub const MAX_NOISE_BORDERS: usize = 3;
+
+    // The time grid beside a refusal.
+    pub fn empty() -> Self
+        ensures { λ r. ⌜ r ≡ emptyTime ⌝ }
+    {
+        TimeGrid {
+            num_env: 0,
+            t_e: [0u32; TimeGrid::MAX_BORDERS],
+            num_noise: 0,
+            t_q: [0u32; TimeGrid::MAX_NOISE_BORDERS],
+            l_a: 0,
+        }
+    }
+}
+
+// numTimeSlots: 16 for core frames of 1024 samples, 15 for those of 960.
+pub fn is_slot_count(num_time_slots: usize) -> bool
+    ensures { λ r. ⌜ r ≡ slotCount «num_time_slots» ⌝ }
+{
+    num_time_slots == 15 || num_time_slots == 16
 }

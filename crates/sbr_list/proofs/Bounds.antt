@@ -15,13 +15,14 @@ use Rattle.sbr_grid.specs.declared.Refusal.{Refusal}
 use Rattle.sbr_grid.specs.declared.Refusal.the-variants.{SlotCount}
 use Rattle.sbr_grid.specs.Refusals.{Outcome, answered, refused, valueOr}
 use Rattle.sbr_grid.specs.Grid.{Grid, numEnv}
-use Rattle.sbr_time_grid.specs.TimeGrid.{Times, byPointer, slotCount, rises, tE, tQ, lA, noiseFits, middleBorder, listFrom, times, timeGrid}
+use Rattle.sbr_grid.specs.Times.{Times, slotCount}
+use Rattle.sbr_time_grid.specs.TimeGrid.{byPointer, rises, tE, tQ, lA, noiseFits, middleBorder, listFrom, times, timeGrid}
 use Rattle.sbr_time_grid.proofs.Laws.{each-class}
 use Rattle.sbr_time_grid.proofs.Borders.{length-listFrom, getD-listFrom}
 use Rattle.sbr_time_grid.proofs.Marks.{noise-meet}
 use Rattle.sbr_time_grid.proofs.Answers.{slots-few}
 use Rattle.sbr_time_grid.proofs.Ends.{time-passes, time-ends}
-use Rattle.sbr_reader.specs.Syntax.{sbrGrid}
+use Rattle.sbr_parse.specs.Syntax.{sbrGrid}
 use Rattle.sbr_reader.specs.Read.{Frame, isBorder, meets, timed, parsed, readGrid}
 use Rattle.sbr_writer.proofs.Facts.{fields-told}
 use Rattle.sbr_reader.proofs.Frames.{frame-writes}

@@ -12,7 +12,7 @@ use lib.Signed.{mag, ltZ, nonNeg}
 use mir.Syntax.{w32, w64}
 use mir.Val.{SFits, Fits, toZ, ofZ}
 use mir.ValLaws.{toZ-ofZ}
-use Rattle.sbr_time_grid.specs.TimeGrid.{Times}
+use Rattle.sbr_grid.specs.Times.{Times}
 use Rattle.sbr_list.specs.declared.text.Line.{Line}
 use Rattle.sbr_list.specs.Listing.{decimal, signed, spaced, stroke}
 use Rattle.sbr_list.specs.Line.{appended, timesText}

@@ -13,7 +13,7 @@ use Rattle.sbr_grid.specs.declared.Refusal.the-variants.{BitsEnd}
 use Rattle.sbr_grid.specs.Refusals.{Outcome, answered, refused, answerOf}
 use Rattle.sbr_grid.specs.Grid.{first, recordOf}
 use Rattle.sbr_grid.proofs.Laws.{view-record, first-first}
-use Rattle.sbr_time_grid.specs.TimeGrid.{timeRecord}
+use Rattle.sbr_grid.specs.Times.{timeRecord}
 use Rattle.sbr_reader.specs.declared.Carried.{Carried}
 use Rattle.sbr_reader.specs.declared.Reading.{Reading}
 use Rattle.sbr_reader.specs.Read.{Frame, readGrid, readingOf}

@@ -7,8 +7,8 @@ use lib.ListN.{length, getD, set}
 use lib.Signed.{mag}
 use Rattle.sbr_grid.specs.declared.SbrGrid.{SbrGrid}
 use Rattle.sbr_grid.specs.Grid.{first, viewOf}
-use Rattle.sbr_time_grid.specs.declared.TimeGrid.{TimeGrid}
-use Rattle.sbr_time_grid.specs.TimeGrid.{Times}
+use Rattle.sbr_grid.specs.declared.TimeGrid.{TimeGrid}
+use Rattle.sbr_grid.specs.Times.{Times}
 use Rattle.sbr_reader.specs.Read.{Frame}
 use Rattle.sbr_list.specs.Listing.{spaced, signed, stroke}
 use Rattle.sbr_list.specs.declared.text.Line.{Line}

@@ -6,10 +6,10 @@ use lib.Dec.{ltb}
 use lib.IntN.{ℤ, pos, negsuc}
 use lib.ListN.{length, drop}
 use Rattle.sbr_grid.specs.declared.FrameClass.{FrameClass}
-use Rattle.sbr_grid.specs.declared.FrameClass.the-variants.{FixFix, FixVar, VarFix, VarVar}
 use Rattle.sbr_grid.specs.declared.Refusal.{Refusal}
 use Rattle.sbr_grid.specs.declared.Refusal.the-variants.{BitsEnd}
 use Rattle.sbr_grid.specs.Refusals.{Outcome, answered, refused, numberOf}
+use Rattle.sbr_grid.specs.Grid.{byClass}
 use Rattle.sbr_reader.specs.Read.{Frame, readGrid}
 
 -- a number below 1000 in base ten
@@ -36,10 +36,7 @@ abbrev pub var : List ℕ
 var = 86 ∷ 97 ∷ 114 ∷ []
 
 abbrev pub className : FrameClass → List ℕ
-className FixFix = fix ++ fix
-className FixVar = fix ++ var
-className VarFix = var ++ fix
-className VarVar = var ++ var
+className c = byClass c (fix ++ fix) (fix ++ var) (var ++ fix) (var ++ var)
 
 -- H for high resolution, L for low
 abbrev pub resolution : Bool → ℕ

@@ -12,7 +12,7 @@ ghost use Rattle.sbr_list.specs.Line.{lineOf, appended, Small, ShortTime
 use sbr_grid::FrameClass;
 use sbr_grid::Refusal;
 use sbr_grid::SbrGrid;
-use sbr_time_grid::TimeGrid;
+use sbr_grid::TimeGrid;
 
 // A text of at most Line::SIZE bytes.
 pub struct Line {

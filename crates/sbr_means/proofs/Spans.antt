@@ -1,9 +1,8 @@
 -- Laws of the spans of a list, and of the bands of a table.
 use mathlib.Core.Path.{_≡_, refl, ap}
 use mathlib.Core.List.{List, [], _∷_, _++_, map}
-use Prim.Native.Nat.{ℕ, zero, suc, _+_, _-_, _*_, _≤_, _<_}
-use native.Mathlib.Nat.{add-zero, zero-add, suc-add, mul-le-mul}
-use native.Mathlib.Numerals.{add-one}
+use Prim.Native.Nat.{ℕ, zero, suc, _+_, _-_, _≤_, _<_}
+use native.Mathlib.Nat.{add-zero, zero-add, suc-add}
 use native.Mathlib.Omega.{arith}
 use lib.ListN.{length, getD}
 use Rattle.sbr_grid.specs.Grid.{first}
@@ -20,18 +19,11 @@ table-bands t n i k b h = record {
   by64 = λ j l. b .by64 (i + j) (omega arith);
 }
 
--- the upper end of band j is at most 64
-pub band-end : (table : List ℕ) (i k : ℕ) → Bands table i k → (j : ℕ) → j < k → entry table (i + j + 1) ≤ 64
-band-end table i k b j h =
-    let e : i + (j + 1) ≡ i + j + 1 = omega arith in
-    rw e at (b .by64 (j + 1) (omega arith))
-
--- a band has at most 64 samples in each of 48 columns
-pub band-size : (table : List ℕ) (i k : ℕ) → Bands table i k → (columns j : ℕ) → columns ≤ 48 → j < k
-    → columns * (entry table (i + j + 1) - entry table (i + j)) ≤ 3072
-band-size table i k b columns j c h =
-    let e : entry table (i + j + 1) - entry table (i + j) ≤ 64 = omega (arith, band-end table i k b j h) in
-    mul-le-mul c e
+-- an entry of the bands is at most 64
+pub entry-by64 : (table : List ℕ) (i k n : ℕ) → Bands table i k → i ≤ n → n ≤ i + k → entry table n ≤ 64
+entry-by64 table i k n b h l =
+    let e : i + (n - i) ≡ n = omega arith in
+    rw e at (b .by64 (n - i) (omega arith))
 
 -- k spans are k
 pub spans-length : (xs : List ℕ) (i k : ℕ) → length (spansFrom xs i k) ≡ k
@@ -60,17 +52,18 @@ mapped-at f xs i (suc k) (suc j) d h =
     let e : suc i + j ≡ i + suc j = omega arith in
     rw e at (mapped-at f xs (suc i) k j d (omega arith))
 
--- the next law for the spans from i on
-spans-end : (xs : List ℕ) (i k : ℕ) → spansFrom xs i (suc k) ≡ spansFrom xs i k ++ (record { from = entry xs (i + k); to = entry xs (suc (i + k)) } ∷ [])
+-- spans in two parts
+pub spans-append : (xs : List ℕ) (i m n : ℕ) → spansFrom xs i (m + n) ≡ spansFrom xs i m ++ spansFrom xs (i + m) n
 unfolding spansFrom
-spans-end xs i zero = rw (add-zero, add-one)
-spans-end xs i (suc k) =
-    let e : suc i + k ≡ i + suc k = omega arith in
-    ap {B = List Span} (λ (t : List Span). record { from = entry xs i; to = entry xs (i + 1) } ∷ t) (rw e at (spans-end xs (suc i) k))
+spans-append xs i zero n = rw (zero-add, add-zero)
+spans-append xs i (suc m) n =
+    let e : suc i + m ≡ i + suc m = omega arith in
+    rw (suc-add m n) (ap {B = List Span} (λ (t : List Span). record { from = entry xs i; to = entry xs (i + 1) } ∷ t) (rw e at (spans-append xs (suc i) m n)))
 
 -- one span more at the end
 pub spans-more : (xs : List ℕ) (k : ℕ) → spansFrom xs 0 (k + 1) ≡ spansFrom xs 0 k ++ (record { from = entry xs k; to = entry xs (k + 1) } ∷ [])
-spans-more xs k = rw (add-one k) (rw (zero-add k) at (spans-end xs 0 k))
+unfolding spansFrom
+spans-more xs k = rw (zero-add k) at (spans-append xs 0 k 1)
 
 -- a number for one span more
 pub mapped-more : {A : Type 0} (f : Span → A) (xs : List ℕ) (k : ℕ)
@@ -89,11 +82,3 @@ pub spans-first : (xs : List ℕ) (n : ℕ) → spans (first 0 (n + 1) xs) ≡ s
 spans-first xs n =
     let e : length (first 0 (n + 1) xs) - 1 ≡ n = omega (arith, length-first 0 (n + 1) xs) in
     rw e (spans-same (first 0 (n + 1) xs) xs 0 n (λ j h l. getD-first 0 (n + 1) j xs (omega arith)))
-
--- spans in two parts
-pub spans-append : (xs : List ℕ) (i m n : ℕ) → spansFrom xs i (m + n) ≡ spansFrom xs i m ++ spansFrom xs (i + m) n
-unfolding spansFrom
-spans-append xs i zero n = rw (zero-add, add-zero)
-spans-append xs i (suc m) n =
-    let e : suc i + m ≡ i + suc m = omega arith in
-    rw (suc-add m n) (ap {B = List Span} (λ (t : List Span). record { from = entry xs i; to = entry xs (i + 1) } ∷ t) (rw e at (spans-append xs (suc i) m n)))

@@ -12,7 +12,7 @@ use lib.Ieee.{Float}
 use mir.Syntax.{w32, w64}
 use mir.Val.{SFits, toZ, ofZ}
 use mir.ValLaws.{toZ-ofZ, toZ-pos}
-use Rattle.sbr_time_grid.specs.TimeGrid.{slotCount}
+use Rattle.sbr_grid.specs.Times.{slotCount}
 use Rattle.sbr_search.specs.Plans.{Case}
 use Rattle.sbr_onsets.specs.Onsets.{held, leadOf, onsetsOf}
 use Rattle.sbr_onsets.proofs.OnsetLaws.{onsets-apart}

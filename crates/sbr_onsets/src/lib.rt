@@ -7,7 +7,7 @@ ghost use Prim.Native.Nat.{ℕ, _+_, _-_, _≤_, _<_};
 ghost use lib.ListN.{getD};
 ghost use Rattle.sbr_energy.specs.Floats.{zero64, total};
 ghost use Rattle.sbr_search.specs.Forms.{onsetList};
-ghost use Rattle.sbr_time_grid.specs.TimeGrid.{slotCount};
+ghost use Rattle.sbr_grid.specs.Times.{slotCount};
 ghost use Rattle.sbr_onsets.specs.Onsets.{peakOf, isAttack, detectOnsets, halvesAlike, onsetsOf, leadOf};
 
 // The largest of the first n energies, from 0.

@@ -15,13 +15,15 @@ use Rattle.sbr_grid.specs.declared.FrameClass.the-variants.{FixFix, FixVar, Var
 use Rattle.sbr_grid.specs.declared.Refusal.{Refusal}
 use Rattle.sbr_grid.specs.Refusals.{Outcome, answered, refused, valueOr}
 use Rattle.sbr_grid.specs.Grid.{widthFrom, ptrBits, Grid, numEnv}
-use Rattle.sbr_time_grid.specs.TimeGrid.{Times, byPointer, slotCount, tE, rises, middleBorder, countsFit, bordersFit, noiseFits, accepts, timeGrid}
+use Rattle.sbr_grid.specs.Times.{Times, slotCount}
+use Rattle.sbr_time_grid.specs.TimeGrid.{byPointer, tE, rises, middleBorder, countsFit, bordersFit, noiseFits, accepts, timeGrid}
 use Rattle.sbr_writer.specs.Syntax.{gridBits}
-use Rattle.sbr_reader.specs.Syntax.{sbrGrid}
+use Rattle.sbr_parse.specs.Syntax.{sbrGrid}
 use Rattle.sbr_reader.specs.Read.{Frame, isBorder, meets, timed, parsed, readGrid}
-use Rattle.sbr_reader.specs.Inverse.{WrittenAs, FrameWrites}
+use Rattle.sbr_parse.specs.Inverse.{WrittenAs}
+use Rattle.sbr_reader.specs.Inverse.{FrameWrites}
 use Rattle.sbr_writer.proofs.Facts.{both}
-use Rattle.sbr_reader.proofs.Inverse.{Sent, sent, writes-back}
+use Rattle.sbr_parse.proofs.Inverse.{Sent, sent, writes-back}
 
 -- an answer behind a test is the one where the test holds
 tested : {A : Type 0} (t : Bool) (x : Outcome A) (e : Refusal) {a : A} → cond t x (refused e) ≡ answered a → (t ≡ true) × (x ≡ answered a)

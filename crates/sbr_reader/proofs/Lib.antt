@@ -1,8 +1,2 @@
-pub mod Monad
-pub mod Inverse
-pub mod Window
 pub mod Frames
-pub mod ParseLists
-pub mod ParseReads
-pub mod ParseLaws
 pub mod ReadLaws

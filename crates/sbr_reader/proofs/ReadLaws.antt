@@ -21,15 +21,16 @@ use Rattle.sbr_grid.specs.Refusals.{Outcome, answered, refused, answerOf}
 use Rattle.sbr_grid.specs.Grid.{Grid, numEnv, viewOf, recordOf}
 use Rattle.sbr_grid.proofs.Laws.{view-record}
 use Rattle.sbr_grid.specs.declared.SbrGrid.{SbrGrid}
-use Rattle.sbr_time_grid.specs.declared.TimeGrid.{TimeGrid}
-use Rattle.sbr_time_grid.specs.TimeGrid.{Times, slotCount, timeGrid, timeRecord}
-use Rattle.sbr_reader.specs.Syntax.{sbrGrid}
-use Rattle.sbr_reader.specs.Parse.{Bits, held}
+use Rattle.sbr_grid.specs.declared.TimeGrid.{TimeGrid}
+use Rattle.sbr_grid.specs.Times.{Times, slotCount, timeRecord}
+use Rattle.sbr_time_grid.specs.TimeGrid.{timeGrid}
+use Rattle.sbr_parse.specs.Syntax.{sbrGrid}
+use Rattle.sbr_parse.specs.Parse.{Bits, held}
 use Rattle.sbr_reader.specs.Read.{Frame, isBorder, meets, timed, readGrid, readingOf}
 use Rattle.sbr_reader.specs.declared.Carried.{Carried}
 use Rattle.sbr_reader.specs.declared.Reading.{Reading}
-use Rattle.sbr_reader.proofs.Inverse.{sent}
-use Rattle.sbr_reader.proofs.Window.{behind, prefix-reads}
+use Rattle.sbr_parse.proofs.Inverse.{sent}
+use Rattle.sbr_parse.proofs.Window.{behind, prefix-reads}
 use mir.Syntax.{w32}
 use mir.Val.{SFits, ofZ}
 

@@ -1,48 +1,17 @@
--- Writing and reading sbr_grid() are inverse: the statements, proved in proofs/Inverse.antt and proofs/Frames.antt.
+-- Every frame that a reading accepts can be written again: the statement, proved in proofs/Frames.antt.
 use mathlib.Core.Path.{_≡_}
-use mathlib.Core.Bool.{Bool, true}
-use mathlib.Core.List.{List, [], _++_}
+use mathlib.Core.Bool.{Bool}
+use mathlib.Core.List.{List}
 use Prim.Native.Nat.{ℕ, _+_}
-use lib.Dec.{leb}
 use lib.IntN.{ℤ}
 use lib.ListN.{length}
 use Rattle.bits.specs.Room.{bitsFrom}
-use Rattle.sbr_grid.specs.declared.FrameClass.{FrameClass}
-use Rattle.sbr_grid.specs.declared.FrameClass.the-variants.{FixFix, FixVar, VarFix, VarVar}
 use Rattle.sbr_grid.specs.Refusals.{answered}
-use Rattle.sbr_grid.specs.Grid.{Grid, numEnv}
 use Rattle.sbr_writer.specs.Syntax.{gridBits}
-use Rattle.sbr_writer.specs.Write.{writable}
-use Rattle.sbr_reader.specs.Syntax.{received, sbrGrid}
+use Rattle.sbr_parse.specs.Inverse.{WrittenAs}
 use Rattle.sbr_reader.specs.Read.{Frame, readGrid}
 
--- a record with the fields that its class does not send cleared
-abbrev pub clearedAs : FrameClass → Grid → Grid
-clearedAs FixFix g = received FixFix (g .freqRes) 0 0 [] [] 0
-clearedAs FixVar g = received FixVar (g .freqRes) 0 (g .varBord1) [] (g .relBord1) (g .pointer)
-clearedAs VarFix g = received VarFix (g .freqRes) (g .varBord0) 0 (g .relBord0) [] (g .pointer)
-clearedAs VarVar g = received VarVar (g .freqRes) (g .varBord0) (g .varBord1) (g .relBord0) (g .relBord1) (g .pointer)
-
-abbrev pub cleared : Grid → Grid
-cleared g = clearedAs (g .frameClass) g
-
--- what any writable record writes is read back, whatever bits follow
-abbrev pub ReadsBack : Type 0
-ReadsBack = (g : Grid) (rest : List Bool) → writable g ≡ true → sbrGrid (gridBits g ++ rest) ≡ answered (cleared g, rest)
-
--- a record is writable, has what its class does not send cleared, and writes the bits bs up to the rest
-pub record WrittenAs (bs : List Bool) (g : Grid) (rest : List Bool) : Type 0 where
-  pub fits : writable g ≡ true
-  pub clear : cleared g ≡ g
-  pub bits : bs ≡ gridBits g ++ rest
-
--- every record that was read is so, unless its pointer is above its envelope count: fields of 2 and 3 bits have room for that
-abbrev pub WritesBack : Type 0
-WritesBack =
-    (bs : List Bool) (g : Grid) (rest : List Bool) → sbrGrid bs ≡ answered (g, rest) → leb (g .pointer) (numEnv g) ≡ true
-    → WrittenAs bs g rest
-
--- the record of every accepted frame is so, and the position after the frame is past the bits that the record writes
+-- the record of every accepted frame writes the bits that it was read from, and the position after the frame is past the bits that the record writes
 abbrev pub FrameWrites : Type 0
 FrameWrites =
     (l : List ℕ) (p n : ℕ) (b : ℤ) (f : Frame) → readGrid l p n b ≡ answered f

@@ -1,4 +1,2 @@
-pub mod Syntax
-pub mod Parse
 pub mod Read
 pub mod Inverse

@@ -9,8 +9,9 @@ use Rattle.bits.specs.Room.{bitsFrom}
 use Rattle.sbr_grid.specs.declared.Refusal.the-variants.{SlotCount, Chain}
 use Rattle.sbr_grid.specs.Refusals.{Outcome, answered, refused, answerOf, valueOr}
 use Rattle.sbr_grid.specs.Grid.{Grid, numEnv, recordOf, empty}
-use Rattle.sbr_time_grid.specs.TimeGrid.{Times, slotCount, timeGrid, timeRecord, emptyTime}
-use Rattle.sbr_reader.specs.Syntax.{sbrGrid}
+use Rattle.sbr_grid.specs.Times.{Times, slotCount, timeRecord, emptyTime}
+use Rattle.sbr_time_grid.specs.TimeGrid.{timeGrid}
+use Rattle.sbr_parse.specs.Syntax.{sbrGrid}
 use Rattle.sbr_reader.specs.declared.Carried.{Carried}
 use Rattle.sbr_reader.specs.declared.Reading.{Reading}
 

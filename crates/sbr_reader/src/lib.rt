@@ -2,14 +2,12 @@
 use sbr_grid::Answer;
 use sbr_grid::Refusal;
 use sbr_grid::SbrGrid;
-use sbr_time_grid::TimeGrid;
+use sbr_grid::TimeGrid;
 ghost use mathlib.Core.Path.{_≡_};
 ghost use Rattle.sbr_grid.specs.Refusals.{refused};
 ghost use Prim.Native.Nat.{_^_, _<_};
 ghost use lib.IntN.{pos};
 ghost use Rattle.sbr_reader.specs.Read.{isBorder, readGrid, readingOf};
-
-mod parse;
 
 // What a receiver keeps from frame to frame.
 pub struct Carried {
@@ -58,11 +56,11 @@ fn is_border(border: i32, k: u32) -> bool
 pub fn read_grid(buf: &[u8], pos: usize, num_time_slots: usize, carried: Carried) -> Reading
     ensures { λ r. ⌜ r ≡ readingOf pos carried (readGrid (now (buf .entry)) pos «num_time_slots» (carried .border)) ⌝ }
 {
-    if !sbr_time_grid::is_slot_count(num_time_slots) {
+    if !sbr_grid::is_slot_count(num_time_slots) {
         return refusal(Refusal::SlotCount, pos, carried);
     }
     let window = bits::peek_bits(buf, pos);
-    let parsed = parse::sbr_grid(window);
+    let parsed = sbr_parse::sbr_grid(window);
     let answer = parsed.answer;
     if let Answer::Refused(why) = answer {
         return refusal(why, pos, carried);

@@ -12,7 +12,8 @@ use Rattle.sbr_grid.specs.Refusals.{Outcome, answered, refused, answerOf}
 use Rattle.sbr_grid.specs.Grid.{first, Grid, numEnv, viewOf}
 use Rattle.sbr_grid.proofs.Laws.{first-first, getD-first, lengths}
 use Rattle.sbr_time_grid.specs.declared.Derived.{Derived}
-use Rattle.sbr_time_grid.specs.TimeGrid.{Times, tE, timeGrid, derivedOf}
+use Rattle.sbr_grid.specs.Times.{Times}
+use Rattle.sbr_time_grid.specs.TimeGrid.{tE, timeGrid, derivedOf}
 use Rattle.sbr_time_grid.proofs.Borders.{at-border}
 use Rattle.sbr_time_grid.proofs.Answers.{slots-few}
 use Rattle.sbr_time_grid.proofs.Ends.{time-passes, time-ends}

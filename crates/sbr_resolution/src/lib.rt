@@ -1,6 +1,6 @@
 // Resolutions of envelopes: `elect_freq_res` of src/sbr_encoder.rs.
 use sbr_grid::SbrGrid;
-use sbr_time_grid::TimeGrid;
+use sbr_grid::TimeGrid;
 ghost use mathlib.Core.Path.{_≡_};
 ghost use mathlib.Core.Bool.{false};
 ghost use mathlib.Core.List.{map};

@@ -13,12 +13,13 @@ use Rattle.sbr_grid.specs.declared.Refusal.{Refusal}
 use Rattle.sbr_grid.specs.declared.Refusal.the-variants.{SlotCount, Samples, Tables, Room, Unwritable}
 use Rattle.sbr_grid.specs.Refusals.{Outcome, answered, refused}
 use Rattle.sbr_grid.specs.Grid.{Grid, numEnv}
-use Rattle.sbr_time_grid.specs.TimeGrid.{Times, slotCount, timeGrid}
+use Rattle.sbr_grid.specs.Times.{Times, slotCount}
+use Rattle.sbr_time_grid.specs.TimeGrid.{timeGrid}
 use Rattle.sbr_time_grid.proofs.Ends.{time-ends}
 use Rattle.sbr_qmf.specs.Qmf.{Samples as SampleAt, columns}
 use Rattle.sbr_writer.specs.Syntax.{gridBits}
 use Rattle.sbr_writer.specs.Write.{Wrote, writable, writeGrid}
-use Rattle.sbr_reader.specs.Syntax.{sbrGrid}
+use Rattle.sbr_parse.specs.Syntax.{sbrGrid}
 use Rattle.sbr_bands.specs.Tables.{tablesFit, Span, spans}
 use Rattle.sbr_envelopes.specs.Envelopes.{samplesNeeded, row, rows, rowsOf, energies}
 use Rattle.sbr_means.specs.Means.{meanIn}

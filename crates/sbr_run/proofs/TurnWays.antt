@@ -11,9 +11,10 @@ use Rattle.sbr_grid.specs.declared.SbrGrid.{SbrGrid}
 use Rattle.sbr_grid.specs.Refusals.{Outcome, answered, refused}
 use Rattle.sbr_grid.specs.Grid.{Grid, numEnv, viewOf, recordOf}
 use Rattle.sbr_grid.proofs.Laws.{getD-first, view-record}
-use Rattle.sbr_time_grid.specs.declared.TimeGrid.{TimeGrid}
+use Rattle.sbr_grid.specs.declared.TimeGrid.{TimeGrid}
 use Rattle.sbr_time_grid.specs.declared.Derived.{Derived}
-use Rattle.sbr_time_grid.specs.TimeGrid.{Times, timeGrid, timeRecord, derivedOf}
+use Rattle.sbr_grid.specs.Times.{Times, timeRecord}
+use Rattle.sbr_time_grid.specs.TimeGrid.{timeGrid, derivedOf}
 use Rattle.sbr_time_grid.proofs.Answers.{slots-few}
 use Rattle.sbr_time_grid.proofs.Ends.{time-ends, time-passes}
 use Rattle.sbr_writer.specs.declared.Written.the-variants.{To, Refused as NotWritten}

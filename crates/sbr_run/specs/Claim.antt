@@ -11,7 +11,8 @@ use Rattle.sbr_grid.specs.declared.Refusal.{Refusal}
 use Rattle.sbr_grid.specs.declared.Refusal.the-variants.{Room}
 use Rattle.sbr_grid.specs.Refusals.{answered, refused}
 use Rattle.sbr_grid.specs.Grid.{Grid}
-use Rattle.sbr_time_grid.specs.TimeGrid.{Times, timeGrid}
+use Rattle.sbr_grid.specs.Times.{Times}
+use Rattle.sbr_time_grid.specs.TimeGrid.{timeGrid}
 use Rattle.sbr_writer.specs.Write.{writeGrid}
 use Rattle.sbr_encoder.specs.Election.{Elected, elect}
 use Rattle.sbr_envelopes.specs.Envelopes.{energies}

@@ -6,7 +6,7 @@ use lib.IntN.{pos}
 use lib.Ieee.{Float}
 use Rattle.sbr_grid.specs.Refusals.{Outcome, answerOf, valueOr}
 use Rattle.sbr_grid.specs.Grid.{recordOf, empty}
-use Rattle.sbr_time_grid.specs.TimeGrid.{timeRecord, emptyTime}
+use Rattle.sbr_grid.specs.Times.{timeRecord, emptyTime}
 use Rattle.sbr_reader.specs.Read.{Frame}
 use Rattle.sbr_run.specs.declared.Place.{Place}
 use Rattle.sbr_run.specs.declared.Sending.{Sending}

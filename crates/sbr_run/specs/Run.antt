@@ -9,7 +9,8 @@ use lib.Ieee.{Float}
 use Rattle.sbr_grid.specs.declared.FrameClass.{FrameClass}
 use Rattle.sbr_grid.specs.Refusals.{Outcome, answered, refused}
 use Rattle.sbr_grid.specs.Grid.{Grid}
-use Rattle.sbr_time_grid.specs.TimeGrid.{Times, timeGrid}
+use Rattle.sbr_grid.specs.Times.{Times}
+use Rattle.sbr_time_grid.specs.TimeGrid.{timeGrid}
 use Rattle.sbr_writer.specs.Syntax.{gridBits}
 use Rattle.sbr_writer.specs.Write.{Wrote, writeGrid}
 use Rattle.sbr_encoder.specs.Election.{elect}

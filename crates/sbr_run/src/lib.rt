@@ -2,8 +2,8 @@
 use sbr_grid::Answer;
 use sbr_grid::Refusal;
 use sbr_grid::SbrGrid;
+use sbr_grid::TimeGrid;
 use sbr_reader::Carried;
-use sbr_time_grid::TimeGrid;
 use sbr_writer::Written;
 ghost use mathlib.Core.Path.{_≡_};
 ghost use Prim.Native.Nat.{_≤_};

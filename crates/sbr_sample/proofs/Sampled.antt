@@ -7,10 +7,11 @@ use lib.Ieee.{ofBits}
 use Rattle.bits.specs.Bits.{bitAt, withBit, getBit, putBit, putBits, bitsAt, bitsOf, numFrom}
 use Rattle.bits.specs.Room.{endOf, roomFor}
 use Rattle.sbr_grid.specs.Grid.{widthFrom}
-use Rattle.sbr_time_grid.specs.TimeGrid.{absBordLead, absBordTrail, nRelLead, nRelTrail, relBordLead, sum, listFrom, tE, rises, middleBorder, lA, slotCount, countsFit, bordersFit, noiseFits, tQ, timeGrid}
+use Rattle.sbr_grid.specs.Times.{slotCount}
+use Rattle.sbr_time_grid.specs.TimeGrid.{absBordLead, absBordTrail, nRelLead, nRelTrail, relBordLead, sum, listFrom, tE, rises, middleBorder, lA, countsFit, bordersFit, noiseFits, tQ, timeGrid}
 use Rattle.sbr_writer.specs.Syntax.{twos, bodyBits, gridBits}
 use Rattle.sbr_writer.specs.Write.{every, classFits, fieldsFit, writeGrid}
-use Rattle.sbr_reader.specs.Syntax.{_>>=_, flags, field, lengths, counted, fixFix, fixVar, varFix, sbrGrid}
+use Rattle.sbr_parse.specs.Syntax.{_>>=_, flags, field, lengths, counted, fixFix, fixVar, varFix, sbrGrid}
 use Rattle.sbr_reader.specs.Read.{meets, readGrid}
 use Rattle.sbr_qmf.specs.Qmf.{columns}
 use Rattle.sbr_energy.specs.Floats.{total, spreadIsHigh}

@@ -6,7 +6,8 @@ use mathlib.Core.List.{List, [], _∷_}
 use mathlib.Core.Option.{Option, none, some}
 use Prim.Native.Nat.{ℕ, zero, suc, _+_, _*_, _≤_, _<_}
 use Rattle.sbr_grid.specs.Refusals.{answered}
-use Rattle.sbr_time_grid.specs.TimeGrid.{Times, slotCount, timeGrid}
+use Rattle.sbr_grid.specs.Times.{Times, slotCount}
+use Rattle.sbr_time_grid.specs.TimeGrid.{timeGrid}
 use Rattle.sbr_borders.specs.declared.WantedBorder.{WantedBorder}
 use Rattle.sbr_search.specs.Search.{Plan, Best, search, bare, isolated, planGrid, multiOnsetGrid}
 use Rattle.sbr_borders.specs.Borders.{shiftCount, places, prices, risesFrom, lastOr, reaches}

@@ -14,7 +14,8 @@ use Rattle.sbr_grid.specs.declared.Refusal.the-variants.{SlotCount, TimeGrid}
 use Rattle.sbr_grid.specs.Refusals.{refused}
 use Rattle.sbr_grid.specs.Grid.{first, Grid, numEnv}
 use Rattle.sbr_time_grid.specs.declared.Derived.{Derived}
-use Rattle.sbr_time_grid.specs.TimeGrid.{slotCount, noiseFits, middleBorder, listFrom, tE, tQ, lA, accepts, timeGrid, derivedOf}
+use Rattle.sbr_grid.specs.Times.{slotCount}
+use Rattle.sbr_time_grid.specs.TimeGrid.{noiseFits, middleBorder, listFrom, tE, tQ, lA, accepts, timeGrid, derivedOf}
 use Rattle.sbr_time_grid.proofs.Borders.{length-listFrom, at-border}
 use Rattle.sbr_time_grid.proofs.Marks.{noise-meet}
 

@@ -11,8 +11,9 @@ use Rattle.sbr_grid.specs.declared.FrameClass.{FrameClass}
 use Rattle.sbr_grid.specs.declared.FrameClass.the-variants.{FixFix, FixVar, VarFix, VarVar}
 use Rattle.sbr_grid.specs.declared.Refusal.the-variants.{SlotCount, TimeGrid}
 use Rattle.sbr_grid.specs.Refusals.{answered, refused}
-use Rattle.sbr_grid.specs.Grid.{Grid, numEnv}
-use Rattle.sbr_time_grid.specs.TimeGrid.{Times, byClass, absBordLead, absBordTrail, bordersFit, tE, times, accepts, slotCount, timeGrid}
+use Rattle.sbr_grid.specs.Grid.{byClass, Grid, numEnv}
+use Rattle.sbr_grid.specs.Times.{Times, slotCount}
+use Rattle.sbr_time_grid.specs.TimeGrid.{absBordLead, absBordTrail, bordersFit, tE, times, accepts, timeGrid}
 use Rattle.sbr_time_grid.proofs.Laws.{Counts, counts}
 use Rattle.sbr_time_grid.proofs.Borders.{length-listFrom, getD-listFrom}
 

@@ -11,9 +11,10 @@ use Rattle.sbr_grid.proofs.FrameClass.{the-type}
 use Rattle.sbr_grid.specs.declared.FrameClass.{FrameClass}
 use Rattle.sbr_grid.specs.declared.FrameClass.the-variants.{FixFix, FixVar, VarFix, VarVar}
 use Rattle.sbr_grid.specs.declared.SbrGrid.{SbrGrid}
-use Rattle.sbr_grid.specs.Grid.{classOf, Grid, numEnv, viewOf}
+use Rattle.sbr_grid.specs.Grid.{byClass, classOf, Grid, numEnv, viewOf}
 use Rattle.sbr_grid.proofs.Laws.{lengths}
-use Rattle.sbr_time_grid.specs.TimeGrid.{byClass, nRelLead, nRelTrail, slotCount, countsFit}
+use Rattle.sbr_grid.specs.Times.{slotCount}
+use Rattle.sbr_time_grid.specs.TimeGrid.{nRelLead, nRelTrail, countsFit}
 
 -- a class by its tag
 pub class-of-tag : (k : FrameClass) (i : ℕ) → tagOf the-type k ≡ i → k ≡ classOf i

@@ -1,32 +1,17 @@
 -- Time borders of a grid: ISO/IEC 14496-3, 4.6.18.3.3 with Tables 4.174 and 4.176. L_E is the envelope count.
 -- Borders are whole numbers from 0 on. A difference that would fall below 0 is 0 here: like the negative number it is not above
 -- the border before it, so the grid is refused either way.
-use mathlib.Core.Bool.{Bool, true, false, cond, _&&_, _||_}
+use mathlib.Core.Bool.{Bool, true, false, cond, _&&_}
 use mathlib.Core.List.{List, [], _∷_}
 use Prim.Native.Nat.{ℕ, zero, suc, _+_, _-_, _*_, _/_}
 use lib.Dec.{leb, ltb, eqb}
 use lib.IntN.{ℤ, pos, negsuc, _-ℤ_}
 use lib.ListN.{length, getD}
-use Rattle.sbr_grid.specs.declared.FrameClass.{FrameClass}
-use Rattle.sbr_grid.specs.declared.FrameClass.the-variants.{FixFix, FixVar, VarFix, VarVar}
 use Rattle.sbr_grid.specs.declared.Refusal.the-variants.{SlotCount, TimeGrid}
 use Rattle.sbr_grid.specs.Refusals.{Outcome, answered, refused, answerOf, valueOr}
-use Rattle.sbr_grid.specs.Grid.{first, Grid, numEnv}
-use Rattle.sbr_time_grid.specs.declared.TimeGrid.{TimeGrid as TimeRecord}
+use Rattle.sbr_grid.specs.Grid.{byClass, Grid, numEnv}
+use Rattle.sbr_grid.specs.Times.{Times, slotCount, timeRecord, emptyTime}
 use Rattle.sbr_time_grid.specs.declared.Derived.{Derived}
-
--- t_E, t_Q and l_A of a frame; l_A, the mark, is -1 for none
-pub record Times : Type 0 where
-  pub tE : List ℕ
-  pub tQ : List ℕ
-  pub lA : ℤ
-
--- a row of the standard's tables: the entries of FIXFIX, FIXVAR, VARFIX, VARVAR
-abbrev pub byClass : {A : Type 0} → FrameClass → A → A → A → A → A
-byClass FixFix a b c d = a
-byClass FixVar a b c d = b
-byClass VarFix a b c d = c
-byClass VarVar a b c d = d
 
 -- a column of Tables 4.174 and 4.176: the entries for bs_pointer 0, 1 and above
 abbrev pub byPointer : {A : Type 0} → ℕ → A → A → A → A
@@ -99,10 +84,6 @@ lA g =
     byClass (g .frameClass) none (byPointer (g .pointer) none at at) (byPointer (g .pointer) none none (pos (g .pointer - 1)))
     (byPointer (g .pointer) none at at)
 
--- numTimeSlots (refusal 1)
-unfoldable pub slotCount : ℕ → Bool
-slotCount n = eqb n 15 || eqb n 16
-
 -- the counts are within the record (document 01, refusal 6), and the list in use has a length for each envelope but one
 unfoldable pub countsFit : Grid → Bool
 countsFit g =
@@ -136,18 +117,6 @@ accepts n g = countsFit g && bordersFit g && rises (tE n g) (numEnv g) && noiseF
 unfoldable pub timeGrid : ℕ → Grid → Outcome Times
 timeGrid n g = cond (slotCount n) (cond (accepts n g) (answered (times n g)) (refused TimeGrid)) (refused SlotCount)
 
--- the record of a time grid: places past a count are zero; and the empty one, which stands beside a refusal
-abbrev pub timeRecord : Times → TimeRecord
-timeRecord t = record {
-  «num_env» = length (t .tE) - 1;
-  «t_e» = first 0 6 (t .tE);
-  «num_noise» = length (t .tQ) - 1;
-  «t_q» = first 0 3 (t .tQ);
-  «l_a» = t .lA;
-}
-
-abbrev pub emptyTime : TimeRecord
-emptyTime = timeRecord (record { tE = []; tQ = []; lA = pos 0 })
-
+-- what a program hands out for it
 abbrev pub derivedOf : Outcome Times → Derived
 derivedOf o = record { answer = answerOf o; time = valueOr timeRecord emptyTime o }

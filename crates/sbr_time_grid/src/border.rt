@@ -1,7 +1,7 @@
 // Envelope borders.
-use crate::TimeGrid;
 use sbr_grid::FrameClass;
 use sbr_grid::SbrGrid;
+use sbr_grid::TimeGrid;
 ghost use mathlib.Core.Path.{_≡_};
 ghost use mathlib.Core.Bool.{true};
 ghost use Prim.Native.Nat.{ℕ, _+_, _-_, _*_, _≤_, _<_};

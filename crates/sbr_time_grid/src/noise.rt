@@ -1,8 +1,8 @@
 // Noise borders and the mark.
-use crate::TimeGrid;
 use crate::border::less;
 use sbr_grid::FrameClass;
 use sbr_grid::SbrGrid;
+use sbr_grid::TimeGrid;
 ghost use mathlib.Core.Path.{_≡_};
 ghost use mathlib.Core.Bool.{true, cond};
 ghost use mathlib.Core.List.{[], _∷_};

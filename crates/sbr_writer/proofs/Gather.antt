@@ -3,7 +3,9 @@ use mathlib.Core.Path.{_≡_, refl, sym, ap, _∙_}
 use mathlib.Core.Bool.{Bool, true, false}
 use mathlib.Core.List.{List, [], _∷_, _++_, reverse, reverse-append, append-assoc}
 use Prim.Native.Nat.{ℕ, zero, suc, _+_, _-_, _*_, _%_, _^_, _<_, _≤_}
+use native.Mathlib.Decide.{decLe}
 use native.Mathlib.Omega.{arith}
+use borrow.Author.Tests.{le-leb, lt-leb}
 use native.Mathlib.Nat.{add-assoc, suc-mul, mod-eq-of-lt, lt-of-lt-of-le, mul-le-mul-right}
 use native.Mathlib.Numerals.{add-one, sub-one}
 use lib.Pow.{shl-exact, pow-mono, pow-add}
@@ -14,7 +16,6 @@ use Rattle.bits.specs.declared.Window.{Window}
 use Rattle.bits.proofs.Numbers.{num-from, num-after, num-append, num-lt, length-bitsOf}
 use Rattle.sbr_grid.specs.Grid.{classCode, first, ptrBits, tableWidth, Grid}
 use Rattle.sbr_grid.specs.declared.FrameClass.{FrameClass}
-use Rattle.sbr_grid.specs.declared.FrameClass.the-variants.{FixFix, FixVar, VarFix, VarVar}
 use Rattle.sbr_grid.proofs.Widths.{ptr-bits-log, width-ptr}
 use Rattle.sbr_grid.proofs.Laws.{length-first, getD-first}
 use Rattle.sbr_writer.specs.Syntax.{envCode, twos, bodyBits, gridBits}
@@ -95,28 +96,22 @@ pub appended-none : (w : Window) → appended w [] ≡ w
 unfolding numFrom
 appended-none w = rw (native.Mathlib.Nat.add-zero)
 
-pub env-code-lt : (n : ℕ) → envCode n < 4
-env-code-lt zero = omega arith
-env-code-lt (suc zero) = omega arith
-env-code-lt (suc (suc zero)) = omega arith
-env-code-lt (suc (suc (suc n))) = omega arith
-
 pub env-code-low : (n : ℕ) → n ≤ 1 → 0 ≡ envCode n
-env-code-low zero h = refl
-env-code-low (suc zero) h = refl
-env-code-low (suc (suc n)) h = absurd (omega arith)
+env-code-low n h = rw (le-leb n 1 h)
 
 pub env-code-two : (n : ℕ) → 1 < n → n ≤ 2 → 1 ≡ envCode n
-env-code-two zero h k = absurd (omega arith)
-env-code-two (suc zero) h k = absurd (omega arith)
-env-code-two (suc (suc zero)) h k = refl
-env-code-two (suc (suc (suc n))) h k = absurd (omega arith)
+env-code-two n h k = rw (lt-leb n 1 h, le-leb n 2 k)
 
 pub env-code-more : (n : ℕ) → 2 < n → 2 ≡ envCode n
-env-code-more zero h = absurd (omega arith)
-env-code-more (suc zero) h = absurd (omega arith)
-env-code-more (suc (suc zero)) h = absurd (omega arith)
-env-code-more (suc (suc (suc n))) h = refl
+env-code-more n h = rw (lt-leb n 1 (omega arith), lt-leb n 2 h)
+
+pub env-code-lt : (n : ℕ) → envCode n < 4
+env-code-lt n = go (decLe n 1) (decLe n 2)
+  where
+    go : Dec (n ≤ 1) → Dec (n ≤ 2) → envCode n < 4
+    go (yes h) d = rw (← env-code-low n h) (omega arith)
+    go (no h) (yes k) = rw (← env-code-two n (omega arith) k) (omega arith)
+    go (no h) (no k) = rw (← env-code-more n (omega arith)) (omega arith)
 
 -- a pointer up to the envelope count fits its width, which is at most 3
 pub pointer-fits : (n p w : ℕ) → 0 < n → n ≤ 5 → p ≤ n → w ≡ tableWidth n → p < 2 ^ w
@@ -145,12 +140,6 @@ pub var-var-bits : (b0 b1 : ℕ) (rel0 rel1 : List ℕ) (m n : ℕ) (ptr fl : Li
     → (bitsOf 2 b0 ++ (bitsOf 2 b1 ++ (bitsOf 2 m ++ bitsOf 2 n))) ++ (twos rel0 ++ (twos rel1 ++ (ptr ++ fl)))
     ≡ bitsOf 2 b0 ++ (bitsOf 2 b1 ++ (bitsOf 2 (length rel0) ++ (bitsOf 2 (length rel1) ++ (twos rel0 ++ (twos rel1 ++ (ptr ++ fl))))))
 var-var-bits b0 b1 rel0 rel1 m n ptr fl e f = rw (e, f) (simp append-assoc)
-
-pub class-code-lt : (k : FrameClass) → classCode k < 4
-class-code-lt FixFix = omega arith
-class-code-lt FixVar = omega arith
-class-code-lt VarFix = omega arith
-class-code-lt VarVar = omega arith
 
 -- class and body make the whole
 pub whole : (g : Grid) (k : FrameClass) (code : ℕ) (w r : Window) → code ≡ classCode (g .frameClass) → g .frameClass ≡ k

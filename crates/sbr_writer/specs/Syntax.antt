@@ -1,7 +1,8 @@
 -- The bits of sbr_grid(): ISO/IEC 14496-3, Table 4.69, the fields of each class in order.
-use mathlib.Core.Bool.{Bool, true, false}
+use mathlib.Core.Bool.{Bool, false, cond}
 use mathlib.Core.List.{List, [], _∷_, _++_, reverse}
-use Prim.Native.Nat.{ℕ, zero, suc}
+use Prim.Native.Nat.{ℕ}
+use lib.Dec.{leb}
 use lib.ListN.{length, getD}
 use Rattle.bits.specs.Bits.{bitsOf}
 use Rattle.sbr_grid.specs.declared.FrameClass.{FrameClass}
@@ -15,10 +16,7 @@ twos (r ∷ rs) = bitsOf 2 r ++ twos rs
 
 -- the number tmp for which bs_num_env is 2 to the power tmp, of 1, 2 and 4
 abbrev pub envCode : ℕ → ℕ
-envCode zero = 0
-envCode (suc zero) = 0
-envCode (suc (suc zero)) = 1
-envCode (suc (suc (suc n))) = 2
+envCode n = cond (leb n 1) 0 (cond (leb n 2) 1 2)
 
 -- bs_pointer and bs_freq_res, the flags in the order in which they are sent
 abbrev pub pointerBits : Grid → List Bool → List Bool

@@ -1,13 +1,13 @@
 -- `c_frame::elect_grid` meets its contract.
 use borrow.Author.Needs.{needs}
-use mathlib.Core.Path.{_≡_, refl, sym, _∙_}
+use mathlib.Core.Path.{_≡_, sym, _∙_}
 use mathlib.Core.Bool.{true}
 use mir.Syntax.{w32}
 use mir.ValLaws.{toZ-ofZ}
 use borrow.Author.Tests.{not-true, not-false, le-leb, lt-leb}
 use lib.Dec.{leb, eqb}
 use Rattle.sbr_grid.specs.declared.Refusal.the-variants.{SlotCount, Unwritable}
-use Rattle.sbr_time_grid.specs.TimeGrid.{slotCount}
+use Rattle.sbr_grid.specs.Times.{slotCount}
 use Rattle.sbr_encoder.specs.Election.{elect, electionOf}
 use Rattle.sbr_form.proofs.Answers.{gives-refused, gives-coded, gives-answered}
 use Rattle.c_bits.specs.Calls.{slotted}
@@ -36,11 +36,18 @@ elected c = rw (slots-so (c .before), le-leb _ 1 (c .if2 .left))
 is-slot-count-requires : tie.Need-is-slot-count-requires
 is-slot-count-requires c κs = search needs
 
+number-requires : tie.Need-number-requires
+number-requires c κs = search needs
+
 returns : tie.Need-returns
-returns c = gives-refused _ _ SlotCount _ refl (rw (sym (c .before .is-slot-count .ensures) ∙ not-true _ (c .if1 .taken)))
+returns c =
+    gives-refused _ _ SlotCount _ (c .number .ensures) (rw (sym (c .before .before .is-slot-count .ensures) ∙ not-true _ (c .before .if1 .taken)))
+
+number-requires-2 : tie.Need-number-requires-2
+number-requires-2 c κs = search needs
 
 returns-2 : tie.Need-returns-2
-returns-2 c = gives-refused _ _ Unwritable _ refl (rw (slots-so (c .before), lt-leb _ 1 (c .if2 .taken)))
+returns-2 c = gives-refused _ _ Unwritable _ (c .number2 .ensures) (rw (slots-so (c .before .before), lt-leb _ 1 (c .before .if2 .taken)))
 
 elect-grid-requires : tie.Need-elect-grid-requires
 elect-grid-requires c κs = search needs
@@ -76,7 +83,9 @@ elect-grid-spec =
     tie.close
     (tie.spec
     is-slot-count-requires
+    number-requires
     returns
+    number-requires-2
     returns-2
     elect-grid-requires
     code-of-requires

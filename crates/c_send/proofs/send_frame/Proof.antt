@@ -1,6 +1,6 @@
 -- `c_send::send_frame` meets its contract.
 use borrow.Author.Needs.{needs}
-use mathlib.Core.Path.{_≡_, refl, sym, _∙_}
+use mathlib.Core.Path.{_≡_, sym, _∙_}
 use mathlib.Core.Bool.{true}
 use mathlib.Core.List.{List}
 use Prim.Native.Nat.{ℕ}
@@ -9,7 +9,7 @@ use mir.ValLaws.{toZ-ofZ}
 use borrow.Author.Tests.{not-true, not-false, le-leb, lt-leb}
 use lib.Dec.{leb, eqb}
 use Rattle.sbr_grid.specs.declared.Refusal.the-variants.{SlotCount, Unwritable}
-use Rattle.sbr_time_grid.specs.TimeGrid.{slotCount}
+use Rattle.sbr_grid.specs.Times.{slotCount}
 use Rattle.sbr_run.specs.declared.Place.{Place}
 use Rattle.sbr_run.specs.Run.{Turn, turn}
 use Rattle.sbr_run.specs.Forms.{turnFrom, sendingOf, bytesLeft}
@@ -55,11 +55,18 @@ sent-is c = rw (toZ-ofZ w32 _ (record { sfits = c .before .before .before .befor
 is-slot-count-requires : tie.Need-is-slot-count-requires
 is-slot-count-requires c κs = search needs
 
+number-requires : tie.Need-number-requires
+number-requires c κs = search needs
+
 returns : tie.Need-returns
-returns c = gives-refused _ _ SlotCount _ refl (rw (sym (c .before .is-slot-count .ensures) ∙ not-true _ (c .if1 .taken)))
+returns c =
+    gives-refused _ _ SlotCount _ (c .number .ensures) (rw (sym (c .before .before .is-slot-count .ensures) ∙ not-true _ (c .before .if1 .taken)))
+
+number-requires-2 : tie.Need-number-requires-2
+number-requires-2 c κs = search needs
 
 returns-2 : tie.Need-returns-2
-returns-2 c = gives-refused _ _ Unwritable _ refl (rw (slots-so (c .before), lt-leb _ 1 (c .if2 .taken)))
+returns-2 c = gives-refused _ _ Unwritable _ (c .number2 .ensures) (rw (slots-so (c .before .before), lt-leb _ 1 (c .before .if2 .taken)))
 
 send-frame-requires : tie.Need-send-frame-requires
 send-frame-requires c κs = search needs
@@ -108,7 +115,9 @@ send-frame-spec =
     tie.close
     (tie.spec
     is-slot-count-requires
+    number-requires
     returns
+    number-requires-2
     returns-2
     send-frame-requires
     code-of-requires

@@ -7,7 +7,7 @@ use borrow.Author.Tests.{not-true, not-false}
 use lib.ListN.{length}
 use mir.Syntax.{w32}
 use mir.ValLaws.{toZ-ofZ}
-use Rattle.sbr_time_grid.specs.TimeGrid.{slotCount}
+use Rattle.sbr_grid.specs.Times.{slotCount}
 use Rattle.sbr_bands.specs.Tables.{tablesFit}
 use Rattle.sbr_envelopes.specs.Envelopes.{samplesNeeded}
 use Rattle.sbr_resolution.specs.Resolution.{Ready}

@@ -3,7 +3,8 @@ use native.Mathlib.Omega.{arith}
 use Rattle.sbr_grid.specs.Grid.{viewOf}
 use Rattle.sbr_qmf.specs.Qmf.{columns}
 use Rattle.sbr_grid.specs.Refusals.{answered}
-use Rattle.sbr_time_grid.specs.TimeGrid.{Times, timeGrid}
+use Rattle.sbr_grid.specs.Times.{Times}
+use Rattle.sbr_time_grid.specs.TimeGrid.{timeGrid}
 use Rattle.sbr_resolution.proofs.Borders.{ready-before}
 use Rattle.sbr_resolution.proofs.Times.{Timed, derived, derived-count}
 use Rattle.sbr_encoder.proofs.Resolves.{keeps, elects}

@@ -29,6 +29,9 @@ add-if1 c = omega arith
 add-last : tie.Need-add-last Inv-loop μ-loop
 add-last c = omega arith
 
+sub-band-sums : tie.Need-sub-band-sums Inv-loop μ-loop
+sub-band-sums c = omega arith
+
 mul-band-sums : tie.Need-mul-band-sums Inv-loop μ-loop
 mul-band-sums c = omega (arith, ends c)
 
@@ -68,7 +71,8 @@ loop-again c =
     let l = j .before .before .loop in
     let a = j .before .before .before .before .args in
     let e = ends j in
-    let sums = c .before .before .before .before .band-sums .ensures in
+    let h : a .kl + (a .kh - a .kl) ≡ a .kh = omega arith in
+    let sums = rw h at (c .before .before .before .before .band-sums .ensures) in
     let slot = slot-is (columns (a .x .now)) (a .kl) (a .kh) in
     (omega arith, list-two _ 24 (l .s) (j .if1 .last) _ _ _ _ (e .0) (e .1) (omega arith) (slot (l .s) _ _ (sums .0 .0) (sums .0 .1)) (slot (j .if1 .last) _ _ (sums .1 .0) (sums .1 .1)) (l .inv .1))
 
@@ -86,6 +90,7 @@ slot-energies-spec =
     loop-holds
     add-if1
     add-last
+    sub-band-sums
     mul-band-sums
     add-band-sums
     mul-band-sums-2

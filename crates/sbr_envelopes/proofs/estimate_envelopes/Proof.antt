@@ -6,7 +6,8 @@ use borrow.Author.Tests.{not-true, not-false}
 use lib.ListN.{length}
 use Rattle.sbr_grid.specs.declared.Refusal.the-variants.{SlotCount, Samples, Tables}
 use Rattle.sbr_grid.specs.Grid.{viewOf}
-use Rattle.sbr_time_grid.specs.TimeGrid.{slotCount, timeGrid}
+use Rattle.sbr_grid.specs.Times.{slotCount}
+use Rattle.sbr_time_grid.specs.TimeGrid.{timeGrid}
 use Rattle.sbr_qmf.specs.Qmf.{columns}
 use Rattle.sbr_bands.specs.Tables.{tablesFit}
 use Rattle.sbr_envelopes.specs.Envelopes.{samplesNeeded}

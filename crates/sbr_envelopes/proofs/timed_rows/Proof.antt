@@ -6,7 +6,8 @@ use lib.Ieee.{Float}
 use Rattle.sbr_grid.specs.Grid.{viewOf}
 use Rattle.sbr_grid.specs.Refusals.{answered}
 use Rattle.sbr_time_grid.specs.declared.Derived.{Derived}
-use Rattle.sbr_time_grid.specs.TimeGrid.{Times, timeGrid}
+use Rattle.sbr_grid.specs.Times.{Times}
+use Rattle.sbr_time_grid.specs.TimeGrid.{timeGrid}
 use Rattle.sbr_qmf.specs.Qmf.{columns}
 use Rattle.sbr_resolution.proofs.Times.{Timed, derived}
 use Rattle.sbr_grid.proofs.Outcomes.{refused-is, given-is}

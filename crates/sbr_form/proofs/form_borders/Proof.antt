@@ -19,7 +19,7 @@ unformed-requires : tie.Need-unformed-requires
 unformed-requires c κs = search needs
 
 returns : tie.Need-returns
-returns c = none-formed _ _ (c .unformed .ensures) (sym (c .before .before .is-formed .ensures) ∙ not-true _ (c .before .if1 .taken))
+returns c = rw (sym (c .before .before .is-formed .ensures) ∙ not-true _ (c .before .if1 .taken)) (none-formed _ (c .unformed .ensures))
 
 slice-aggregate-record : tie.Need-slice-aggregate-record
 slice-aggregate-record c = search needs
@@ -28,7 +28,7 @@ record-requires : tie.Need-record-requires
 record-requires c κs = formed-told _ _ _ (formed-so (c .before)) .bytes
 
 returns-2 : tie.Need-returns-2
-returns-2 c = (sym (formed-so (c .before .before)), λ e. c .«record» .ensures)
+returns-2 c = rw (formed-so (c .before .before), c .«record» .ensures)
 
 pub form-borders-spec : {M : Type 1} → statement M
 form-borders-spec =

@@ -22,8 +22,7 @@ unformed-requires : tie.Need-unformed-requires
 unformed-requires c κs = search needs
 
 returns : tie.Need-returns
-returns c =
-    none-formed _ _ (c .unformed .ensures) (rw (sym (c .before .before .is-formed .ensures) ∙ not-true _ (c .before .if1 .taken)))
+returns c = rw (sym (c .before .before .is-formed .ensures) ∙ not-true _ (c .before .if1 .taken)) (none-formed _ (c .unformed .ensures))
 
 is-flagged-requires : tie.Need-is-flagged-requires
 is-flagged-requires c κs = search needs
@@ -34,13 +33,13 @@ unformed-requires-2 c κs = search needs
 returns-2 : tie.Need-returns-2
 returns-2 c =
     let b = c .before .before in
-    none-formed _ _ (c .unformed2 .ensures) (rw (formed-so (b .before), sym (b .is-flagged .ensures) ∙ not-true _ (c .before .if2 .taken)))
+    rw (formed-so (b .before), sym (b .is-flagged .ensures) ∙ not-true _ (c .before .if2 .taken)) (none-formed _ (c .unformed2 .ensures))
 
 record-requires : tie.Need-record-requires
 record-requires c κs = formed-told _ _ _ (formed-so (c .before .before)) .bytes
 
 returns-3 : tie.Need-returns-3
-returns-3 c = let e = c .before in (rw (formed-so (e .before .before), flags-so e), λ t. c .«record» .ensures)
+returns-3 c = let e = c .before in rw (formed-so (e .before .before), flags-so e, c .«record» .ensures)
 
 pub form-record-spec : {M : Type 1} → statement M
 form-record-spec =

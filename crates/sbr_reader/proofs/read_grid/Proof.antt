@@ -16,12 +16,13 @@ use Rattle.sbr_grid.specs.Grid.{Grid, numEnv, viewOf}
 use Rattle.sbr_grid.specs.Refusals.{answered}
 use Rattle.sbr_time_grid.proofs.Ends.{Ends, time-ends}
 use Rattle.sbr_time_grid.proofs.Answers.{slots-few}
-use Rattle.sbr_time_grid.specs.TimeGrid.{Times, slotCount, timeGrid, derivedOf}
+use Rattle.sbr_grid.specs.Times.{Times, slotCount}
+use Rattle.sbr_time_grid.specs.TimeGrid.{timeGrid, derivedOf}
 use Rattle.sbr_time_grid.specs.declared.Derived.{Derived}
 use Rattle.sbr_reader.specs.Read.{isBorder, readGrid}
-use Rattle.sbr_reader.specs.Parse.{parsedOf, held}
-use Rattle.sbr_reader.specs.Syntax.{sbrGrid}
-use Rattle.sbr_reader.specs.declared.parse.Parsed.{Parsed}
+use Rattle.sbr_parse.specs.Parse.{parsedOf, held}
+use Rattle.sbr_parse.specs.Syntax.{sbrGrid}
+use Rattle.sbr_parse.specs.declared.Parsed.{Parsed}
 use Rattle.sbr_reader.specs.Read
 use Rattle.sbr_reader.proofs.ReadLaws.{window-good, read-slots, read-bits, read-record, meets-not, frameOf, meets-so, read-view, read-left, read-given}
 use Rattle.sbr_grid.proofs.Outcomes.{refused-is, given-is}

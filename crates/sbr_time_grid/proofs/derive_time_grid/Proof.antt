@@ -8,7 +8,8 @@ use mir.Syntax.{w32}
 use mir.ValLaws.{toZ-ofZ}
 use Rattle.sbr_grid.specs.Grid.{Grid, numEnv, viewOf}
 use Rattle.sbr_grid.proofs.Laws.{lengths}
-use Rattle.sbr_time_grid.specs.TimeGrid.{slotCount, countsFit, bordersFit, noiseFits, rises, tE}
+use Rattle.sbr_grid.specs.Times.{slotCount}
+use Rattle.sbr_time_grid.specs.TimeGrid.{countsFit, bordersFit, noiseFits, rises, tE}
 use Rattle.sbr_time_grid.proofs.Laws.{Fit, fit}
 use Rattle.sbr_time_grid.proofs.Rises.{rises-same}
 use Rattle.sbr_time_grid.proofs.Borders.{at-border}

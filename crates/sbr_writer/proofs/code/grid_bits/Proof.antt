@@ -5,7 +5,8 @@ use Rattle.sbr_grid.specs.Grid.{viewOf}
 use Rattle.sbr_writer.specs.Write.{fieldsFit, classFits}
 use Rattle.sbr_writer.specs.Code.{Space}
 use Rattle.sbr_writer.proofs.Facts.{both, told}
-use Rattle.sbr_writer.proofs.Gather.{narrow, space-field, class-code-lt, whole}
+use Rattle.sbr_writer.proofs.Gather.{narrow, space-field, whole}
+use Rattle.sbr_grid.proofs.Laws.{code-lt}
 use native.Mathlib.Omega.{arith}
 use borrow.Author.Needs.{needs}
 use Rattle.sbr_writer.proofs.code.grid_bits.Statement.{statement}
@@ -21,7 +22,7 @@ to-bits-requires : tie.Need-to-bits-requires
 to-bits-requires c κs = search needs
 
 push-requires : tie.Need-push-requires
-push-requires c κs = (record { room = omega arith; small = omega arith }, rw (c .to-bits .ensures) (class-code-lt (c .before .args .g .«frame_class»)))
+push-requires c κs = (record { room = omega arith; small = omega arith }, rw (c .to-bits .ensures) (code-lt (c .before .args .g .«frame_class»)))
 
 enum-told : tie.Need-enum-told
 enum-told c = search needs

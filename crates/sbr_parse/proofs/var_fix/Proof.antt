@@ -1,0 +1,39 @@
+-- `sbr_parse::var_fix` meets its contract.
+use native.Mathlib.Omega.{arith}
+use borrow.Author.Needs.{needs}
+use Rattle.sbr_parse.proofs.ParseLaws.{var-fix-short, var-fix-reads}
+use Rattle.sbr_parse.proofs.var_fix.Statement.{statement}
+use Rattle.sbr_parse.proofs.var_fix.Tie as tie
+
+refusal-requires : tie.Need-refusal-requires
+refusal-requires c κs = search needs
+
+returns : tie.Need-returns
+returns c = let a = c .before .before .before .args .body in rw (var-fix-short (a .width) (a .value) (omega arith)) (c .refusal .ensures)
+
+pair-requires : tie.Need-pair-requires
+pair-requires c κs = search needs
+
+cast-behind-counts : tie.Need-cast-behind-counts
+cast-behind-counts c = search needs
+
+behind-counts-requires : tie.Need-behind-counts-requires
+behind-counts-requires c κs = search needs
+
+returns-2 : tie.Need-returns-2
+returns-2 c =
+    let a = c .before .before .before .before .before .before .args .body in
+    let p = c .before .before .before .pair in
+    rw (var-fix-reads (a .width) (p .result .rest .width) (a .value) (omega (arith, p .ensures .width)))
+    (rw (p .ensures .first, p .ensures .second, p .ensures .value) at (c .behind-counts .ensures))
+
+pub var-fix-spec : {M : Type 1} → statement M
+var-fix-spec =
+    tie.close
+    (tie.spec
+    refusal-requires
+    returns
+    pair-requires
+    cast-behind-counts
+    behind-counts-requires
+    returns-2)

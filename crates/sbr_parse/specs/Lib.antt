@@ -1,0 +1,3 @@
+pub mod Syntax
+pub mod Parse
+pub mod Inverse

@@ -1,0 +1,96 @@
+-- sbr_grid() read: ISO/IEC 14496-3, Table 4.69, field by field. Bits that end too soon are refused where the field is read (7), a count
+-- that no frame has directly after the last count field (8): document 01, "Refusals".
+use mathlib.Core.Bool.{Bool, true, false, cond, _&&_}
+use mathlib.Core.List.{List, [], _∷_, reverse}
+use Prim.Native.Nat.{ℕ, zero, suc, _+_, _^_}
+use lib.Dec.{leb, eqb}
+use lib.ListN.{length, take, drop, getD, replicate}
+use Rattle.bits.specs.Bits.{numOf}
+use Rattle.sbr_grid.specs.declared.FrameClass.{FrameClass}
+use Rattle.sbr_grid.specs.declared.FrameClass.the-variants.{FixFix, FixVar, VarFix, VarVar}
+use Rattle.sbr_grid.specs.declared.Refusal.the-variants.{BitsEnd, EnvelopeCount}
+use Rattle.sbr_grid.specs.Refusals.{Outcome, answered, refused}
+use Rattle.sbr_grid.specs.Grid.{byClass, classOf, ptrBits, noiseOf, Grid, made}
+
+infixl 20 _>>=_
+-- reading takes bits from the front and leaves the rest
+abbrev pub Reader : Type 0 → Type 0
+Reader A = List Bool → Outcome (A × List Bool)
+
+abbrev pub onward : {A B : Type 0} → (A → Reader B) → Outcome (A × List Bool) → Outcome (B × List Bool)
+onward f (answered p) = f (p .0) (p .1)
+onward f (refused e) = refused e
+
+unfoldable pub _>>=_ : {A B : Type 0} → Reader A → (A → Reader B) → Reader B
+_>>=_ m f = λ bs. onward f (m bs)
+
+abbrev pub pure : {A : Type 0} → A → Reader A
+pure a = λ bs. answered (a, bs)
+
+-- n flags of a bit each
+unfoldable pub flags : ℕ → Reader (List Bool)
+flags n bs = cond (leb n (length bs)) (answered (take n bs, drop n bs)) (refused BitsEnd)
+
+-- a number of w bits
+unfoldable pub field : ℕ → Reader ℕ
+field w bs = cond (leb w (length bs)) (answered (numOf (take w bs), drop w bs)) (refused BitsEnd)
+
+-- k stored lengths of two bits each
+unfoldable pub lengths : ℕ → Reader (List ℕ)
+lengths zero = pure []
+lengths (suc k) = do
+  r ← field 2
+  rs ← lengths k
+  pure (r ∷ rs)
+
+-- the envelope count is one that a frame has
+unfoldable pub counted : Bool → ℕ → Reader ℕ
+counted ok n bs = cond ok (answered (n, bs)) (refused EnvelopeCount)
+
+-- the record of what was read: fields that the class does not send are 0 or empty
+abbrev pub received : FrameClass → List Bool → ℕ → ℕ → List ℕ → List ℕ → ℕ → Grid
+received c res b0 b1 rel0 rel1 p =
+    made c (noiseOf (length res)) res b0 b1 rel0 rel1 p (byClass c true false false false && eqb (length res) 1)
+
+unfoldable pub fixFix : Reader Grid
+fixFix = do
+  tmp ← field 2
+  n ← counted (leb tmp 2) (2 ^ tmp)
+  res ← flags 1
+  pure (received FixFix (replicate n (getD res 0 false)) 0 0 [] [] 0)
+
+unfoldable pub fixVar : Reader Grid
+fixVar = do
+  b1 ← field 2
+  k ← field 2
+  rel1 ← lengths k
+  p ← field (ptrBits (k + 1))
+  res ← flags (k + 1)
+  pure (received FixVar (reverse res) 0 b1 [] rel1 p)
+
+unfoldable pub varFix : Reader Grid
+varFix = do
+  b0 ← field 2
+  k ← field 2
+  rel0 ← lengths k
+  p ← field (ptrBits (k + 1))
+  res ← flags (k + 1)
+  pure (received VarFix res b0 0 rel0 [] p)
+
+unfoldable pub varVar : Reader Grid
+varVar = do
+  b0 ← field 2
+  b1 ← field 2
+  j ← field 2
+  k ← field 2
+  n ← counted (leb (j + k + 1) 5) (j + k + 1)
+  rel0 ← lengths j
+  rel1 ← lengths k
+  p ← field (ptrBits n)
+  res ← flags n
+  pure (received VarVar res b0 b1 rel0 rel1 p)
+
+unfoldable pub sbrGrid : Reader Grid
+sbrGrid = do
+  c ← field 2
+  byClass (classOf c) fixFix fixVar varFix varVar
