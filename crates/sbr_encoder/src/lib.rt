@@ -12,7 +12,7 @@ ghost use Rattle.sbr_grid.specs.Grid.{recordOf, viewOf};
 ghost use Rattle.sbr_grid.specs.Times.{Times, slotCount};
 ghost use Rattle.sbr_time_grid.specs.TimeGrid.{timeGrid};
 ghost use Rattle.sbr_qmf.specs.Qmf.{columns};
-ghost use Rattle.sbr_energy.specs.Floats.{zero64};
+ghost use lib.Ieee.{nan};
 ghost use Rattle.sbr_energy.specs.Energy.{slotEnergies};
 ghost use Rattle.sbr_plan.specs.Elect.{chosenGrid};
 ghost use Rattle.sbr_bands.specs.Tables.{entry, top};
@@ -62,10 +62,15 @@ fn resolved(x: &[f64], high: &[u8], low: &[u8], grid: SbrGrid, num_time_slots: u
 }
 
 // The grid for the slot energies of a frame, its resolutions not yet elected, and whether there is an onset.
-fn choose(e: [f64; 24], t_e_last_prev: i32, variable_borders: bool, num_time_slots: usize) -> Choice
+fn choose(
+    e: &[f64; 24],
+    t_e_last_prev: i32,
+    variable_borders: bool,
+    num_time_slots: usize,
+) -> Choice
     requires { ⌜ slotCount «num_time_slots» ≡ true ⌝ }
-    ensures { λ r. ⌜ r .grid ≡ recordOf (chosenGrid «variable_borders» (halvesAlike (λ i. getD e i zero64) «num_time_slots») (onsetsOf (λ i. getD e i zero64) «num_time_slots») (leadOf «num_time_slots» «t_e_last_prev») «num_time_slots») ⌝ }
-    ensures { λ r. ⌜ r .transient ≡ hasOnset (onsetsOf (λ i. getD e i zero64) «num_time_slots») ⌝ }
+    ensures { λ r. ⌜ r .grid ≡ recordOf (chosenGrid «variable_borders» (halvesAlike (λ i. getD (now (e .entry)) i nan) «num_time_slots») (onsetsOf (λ i. getD (now (e .entry)) i nan) «num_time_slots») (leadOf «num_time_slots» «t_e_last_prev») «num_time_slots») ⌝ }
+    ensures { λ r. ⌜ r .transient ≡ hasOnset (onsetsOf (λ i. getD (now (e .entry)) i nan) «num_time_slots») ⌝ }
 {
     let onsets = sbr_onsets::onsets_of(e, num_time_slots);
     let mut even = false;
@@ -102,7 +107,7 @@ fn elected(
     ensures { λ r. ⌜ r ≡ electionOf (answered (electedOf (columns (now (x .entry))) (now (high .entry)) (now (low .entry)) «num_time_slots» «t_e_last_prev» «variable_borders»)) ⌝ }
 {
     let e = energies(x, high, low, num_time_slots);
-    let plan = choose(e, t_e_last_prev, variable_borders, num_time_slots);
+    let plan = choose(&e, t_e_last_prev, variable_borders, num_time_slots);
     let grid = plan.grid;
     Election {
         answer: Answer::Given,

@@ -11,23 +11,17 @@ use borrow.Author.Tests.{lt-ltb, le-ltb}
 use lib.ListN.{length, getD, set, length-set}
 use lib.Seq.{take-suc-set}
 use lib.Ieee as Ieee
-use lib.Ieee.{Float, binary64}
+use lib.Ieee.{Float, binary64, nan}
 use Rattle.sbr_grid.specs.Grid.{first}
 use Rattle.sbr_grid.proofs.Laws.{first-take}
-use Rattle.sbr_energy.specs.Floats.{zero64, maxOf, minOf, total, meanOf, floor64}
+use Rattle.sbr_energy.specs.Floats.{maxOf, minOf, total, meanOf, floor64}
 use Rattle.sbr_search.specs.Plans.{OnsetsFrom}
 use Rattle.sbr_onsets.specs.Onsets.{eight, nano, tenth, one64, half, two64, peakOf, isAttack, onsetsFrom, detectOnsets, halvesAlike}
 use Rattle.sbr_onsets.proofs.OnsetSame.{total-same}
 
 -- the energies of an array
 abbrev pub energyAt : List Float → ℕ → Float
-energyAt e i = getD e i zero64
-
--- the energy at a place of an array, whatever stands past its end
-pub at-place : (e : List Float) (i : ℕ) (d d′ : Float) → i < length e → getD e i d ≡ getD e i d′
-at-place [] i d d′ h = absurd (not-suc-le-zero h)
-at-place (x ∷ e) zero d d′ h = refl
-at-place (x ∷ e) (suc i) d d′ h = at-place e i d d′ (le-of-suc-le-suc h)
+energyAt e i = getD e i nan
 
 -- one energy more
 pub peak-more : (e : ℕ → Float) (n : ℕ) (peak top : Float) → peak ≡ peakOf e n → top ≡ maxOf peak (e n) → top ≡ peakOf e (n + 1)

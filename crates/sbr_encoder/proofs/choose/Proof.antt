@@ -2,13 +2,12 @@ use mathlib.Core.Path.{_≡_, sym, ap, _∙_}
 use mathlib.Core.Logic.{⊎-elim}
 use native.Mathlib.Omega.{arith}
 use borrow.Author.Needs.{needs}
-use lib.Ieee.{Float}
+use lib.Ieee.{Float, nan}
 use lib.ListN.{getD}
 use mir.Syntax.{w32}
 use mir.ValLaws.{toZ-ofZ}
 use Prim.Native.Nat.{ℕ}
 use Rattle.sbr_grid.specs.Grid.{recordOf}
-use Rattle.sbr_energy.specs.Floats.{zero64}
 use Rattle.sbr_onsets.specs.Onsets.{halvesAlike, leadOf}
 use Rattle.sbr_search.specs.Plans.{Case}
 use Rattle.sbr_search.specs.Forms.{onsetList}
@@ -22,7 +21,7 @@ use Rattle.sbr_encoder.proofs.choose.Tie as tie
 
 -- the energy of a slot
 abbrev energy : tie.Start → ℕ → Float
-energy s i = getD (s .args .e) i zero64
+energy s i = getD (s .args .e .now) i nan
 
 -- where there is no onset, the halves were compared
 alike : (c : tie.Joined1) → let s = c .before .before .before in

@@ -20,7 +20,7 @@ abbrev μ-loop : tie.MeasureT-loop
 
 -- the test of the frame's slots
 abbrev test : tie.Start Inv-loop μ-loop → ℕ → Bool
-test c = isAttack (energyAt (c .args .e)) (c .args .peak)
+test c = isAttack (energyAt (c .args .e .now)) (c .args .peak)
 
 loop-holds : tie.Need-loop-holds Inv-loop μ-loop
 loop-holds c = (omega arith, omega arith, refl, scan-none _ _ (0 ∷ 0 ∷ 0 ∷ []))

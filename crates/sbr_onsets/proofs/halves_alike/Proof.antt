@@ -12,10 +12,10 @@ use Rattle.sbr_onsets.proofs.halves_alike.Tie as tie
 tests : (c : tie.After-sum-of2)
     → let a = c .before .before .args in
     let ratio = Ieee.div binary64 (Ieee.add binary64 (c .before .sum-of .result) one64) (Ieee.add binary64 (c .sum-of2 .result) one64) in
-    halvesAlike (energyAt (a .e)) (a .nts) ≡ (Ieee.le half ratio && Ieee.le ratio two64)
+    halvesAlike (energyAt (a .e .now)) (a .nts) ≡ (Ieee.le half ratio && Ieee.le ratio two64)
 tests c =
     let a = c .before .before .args in
-    halves-is (a .e) (a .nts) _ _ (c .before .sum-of .ensures) (c .sum-of2 .ensures)
+    halves-is (a .e .now) (a .nts) _ _ (c .before .sum-of .ensures) (c .sum-of2 .ensures)
 
 sum-of-requires : tie.Need-sum-of-requires
 sum-of-requires c κs = search needs

@@ -1,21 +1,19 @@
-use mathlib.Core.Path.{_≡_, refl, _∙_}
+use mathlib.Core.Path.{_≡_, refl}
 use Prim.Native.Nat.{_≤_, _-_}
 use native.Mathlib.Omega.{arith}
 use borrow.Author.Needs.{needs}
-use borrow.Kind.Array.{eFloat, good-length}
 use lib.ListN.{getD}
-use lib.Ieee.{binary64, nan}
-use Rattle.sbr_energy.specs.Floats.{zero64}
+use lib.Ieee.{nan}
 use Rattle.sbr_onsets.specs.Onsets.{peakOf}
-use Rattle.sbr_onsets.proofs.OnsetLaws.{at-place, peak-more}
+use Rattle.sbr_onsets.proofs.OnsetLaws.{peak-more}
 use Rattle.sbr_onsets.proofs.peak_of.Statement.{statement}
 use Rattle.sbr_onsets.proofs.peak_of.Tie as tie
 
 abbrev Inv-loop : tie.InvT-loop
-Inv-loop n e peak₀ i₀ peak i = (i ≤ n) × (peak ≡ peakOf (λ j. getD e j zero64) i)
+Inv-loop e n peak₀ i₀ peak i = (i ≤ n) × (peak ≡ peakOf (λ j. getD e j nan) i)
 
 abbrev μ-loop : tie.MeasureT-loop
-μ-loop n e peak₀ i₀ peak i = n - i
+μ-loop e n peak₀ i₀ peak i = n - i
 
 loop-holds : tie.Need-loop-holds Inv-loop μ-loop
 unfolding peakOf
@@ -24,8 +22,8 @@ loop-holds c = (omega arith, refl)
 mul-max : tie.Need-mul-max Inv-loop μ-loop
 mul-max c = omega arith
 
-array-read-max : tie.Need-array-read-max Inv-loop μ-loop
-array-read-max c = omega arith
+element-copy-out-max : tie.Need-element-copy-out-max Inv-loop μ-loop
+element-copy-out-max c = omega arith
 
 max-requires : tie.Need-max-requires Inv-loop μ-loop
 max-requires c κs = search needs
@@ -38,10 +36,7 @@ loop-less c = omega arith
 
 loop-again : tie.Need-loop-again Inv-loop μ-loop
 loop-again c =
-    let s = c .before .before .before in
-    let l = c .before .before .loop in
-    let long = good-length (eFloat binary64) 24 (s .args .t1) _ (s .good .0) in
-    (omega arith, peak-more _ _ _ _ (l .inv .1) (c .max .ensures ∙ rw (at-place (s .args .t1) (l .i) nan zero64 (omega arith))))
+    (omega arith, peak-more _ _ _ _ (c .before .before .before .loop .inv .1) (c .max .ensures))
 
 returns : tie.Need-returns Inv-loop μ-loop
 returns c =
@@ -56,7 +51,7 @@ peak-of-spec =
     μ-loop
     loop-holds
     mul-max
-    array-read-max
+    element-copy-out-max
     max-requires
     add-i
     loop-less
