@@ -1,10 +1,11 @@
 -- The two lists of wanted borders that a frame's onsets give.
 use mathlib.Core.Path.{_≡_, refl, sym, _∙_}
 use mathlib.Core.Bool.{Bool, false, cond}
-use mathlib.Core.Option.{Option}
+use mathlib.Core.Option.{Option, none, some}
 use mathlib.Core.List.{List, [], _∷_, _++_, append-assoc, append-nil}
 use Prim.Native.Nat.{ℕ, zero, suc, _+_, _≤_, _<_}
 use native.Mathlib.Omega.{arith}
+use borrow.Author.Tests.{le-ltb, ltb-false}
 use lib.ListN.{length, drop, set, getD, drop-of-length-le, List·getD-map}
 use Rattle.sbr_grid.specs.Grid.{first}
 use Rattle.sbr_grid.proofs.Laws.{length-first, getD-first}
@@ -13,7 +14,7 @@ use Rattle.sbr_search.specs.declared.Onsets.{Onsets}
 use Rattle.sbr_search.specs.declared.Cost.{Cost}
 use Rattle.sbr_search.specs.declared.Cost.the-variants.{Total, NoTotal}
 use Rattle.sbr_borders.specs.declared.Wanted.{Wanted}
-use Rattle.sbr_search.specs.Search.{Plan, Best, search, bare, isolated, planned, plainWins, multiOnsetGrid}
+use Rattle.sbr_search.specs.Search.{Plan, Best, beats, search, bare, isolated, planned, plainWins, multiOnsetGrid}
 use Rattle.sbr_borders.specs.Borders.{onsetAt}
 use Rattle.sbr_search.specs.Plans.{OnsetsFrom, Case}
 use Rattle.sbr_search.specs.Forms.{onsetList}
@@ -101,6 +102,12 @@ wins-any NoTotal NoTotal p q p′ q′ = refl
 wins-any NoTotal (Total y) p q p′ q′ = refl
 wins-any (Total x) NoTotal p q p′ q′ = refl
 wins-any (Total x) (Total y) p q p′ q′ = refl
+
+-- no plain plan wins over one that costs no more than the isolating border is worth
+pub plain-loses : (i p : Option Best) → beats 2 i ≡ false → plainWins i p ≡ false
+plain-loses none p e = let z : _≡_ {A = ℕ} 0 1 = cc in absurd (omega arith)
+plain-loses (some i) none e = refl
+plain-loses (some i) (some p) e = le-ltb (p .total + 2) (i .total) (omega (arith, ltb-false 2 (i .total) e))
 
 -- the grid of the search that wins
 pub multi-by : (n lead k : ℕ) (xs : List ℕ) (i p : Option Best) (b : Bool) → 1 ≤ k → i ≡ search n lead (isolated (first 0 k xs))

@@ -7,7 +7,7 @@ use Prim.Native.Nat.{ℕ, zero, suc, _+_, _-_, _≤_, _<_}
 use native.Mathlib.Omega.{arith}
 use native.Mathlib.Numerals.{add-one}
 use native.Mathlib.Decide.{decLe}
-use borrow.Author.Tests.{lt-ltb, le-ltb, leb-true}
+use borrow.Author.Tests.{lt-ltb, le-ltb, leb-true, ltb-false}
 use lib.Dec.{ltb}
 use lib.ListN.{length, replicate}
 use Rattle.sbr_grid.specs.Grid.{first}
@@ -75,6 +75,29 @@ module _ (m k n lead : ℕ) (is bs : List ℕ) (c : ℕ) (best : Option Best) (o
   pub ends-end : m ≤ k → tryEnds (m - k) k n lead is bs c best ≡ o → best ≡ o
   unfolding tryEnds
   ends-end h f = let e : m - k ≡ 0 = omega arith in rw e at f
+
+-- a cost that beats no plan beats none with more added
+beats-more : (c d : ℕ) (best : Option Best) → beats c best ≡ false → beats (c + d) best ≡ false
+beats-more c d none e = let z : _≡_ {A = ℕ} 0 1 = cc in absurd (omega arith)
+beats-more c d (some b) e = le-ltb (c + d) (b .total) (omega (arith, ltb-false c (b .total) e))
+
+-- shifts that cost as much as the best plan give none at any end
+ends-dear : (j over n lead : ℕ) (is bs : List ℕ) (c : ℕ) (best : Option Best) → beats c best ≡ false → tryEnds j over n lead is bs c best ≡ best
+unfolding tryEnds
+ends-dear zero over n lead is bs c best e = refl
+ends-dear (suc j) over n lead is bs c best e =
+    rw (beats-more c over best e, and-false (ltb (lastOr lead bs) (n + over))) (ends-dear j (suc over) n lead is bs c best e)
+
+-- whatever is chosen between two equal plans
+cond-same : (b : Bool) (x y : Option Best) → x ≡ y → cond b x y ≡ y
+cond-same true x y e = e
+cond-same false x y e = refl
+
+pub shifts-dear : (n lead : ℕ) (ws : List WantedBorder) (is : List ℕ) (best : Option Best) (c : ℕ) → c ≡ prices ws is → beats c best ≡ false
+    → best ≡ tryShifts n lead ws is best
+unfolding tryShifts
+shifts-dear n lead ws is best c p e =
+    sym (cond-same (risesFrom lead (places ws is)) _ _ (ends-dear 4 0 n lead is (places ws is) (prices ws is) best (rw (← p) e)))
 
 module _ (n lead : ℕ) (ws : List WantedBorder) (is bs : List ℕ) (best : Option Best) (e : bs ≡ places ws is) where
   -- the borders do not rise: the shifts give no plan

@@ -104,7 +104,7 @@ fn try_end(
     }
 }
 
-// The best so far, or the plan of these shifts where that is cheaper, the earliest end first.
+// The best so far, or the plan of these shifts where that is cheaper, the earliest end first. Shifts that cost as much as the best are passed over.
 fn try_shifts(
     w: Wanted,
     shifts: [u32; Wanted::MAX_BORDERS],
@@ -117,11 +117,14 @@ fn try_shifts(
     ensures { λ r. ⌜ Within (w .count) r ⌝ }
 {
     let count = w.count;
+    let cost = sbr_borders::cost_of(w, shifts);
+    if !is_cheaper(cost, best) {
+        return best;
+    }
     let borders = sbr_borders::borders_of(w, shifts);
     if !sbr_borders::rises_from(lead, borders, count) {
         return best;
     }
-    let cost = sbr_borders::cost_of(w, shifts);
     let mut now = best;
     for over in 0..=SbrGrid::MAX_VAR_BORD as u32 {
         now = try_end(over, nts, lead, shifts, borders, count, cost, now);
@@ -254,14 +257,18 @@ fn planned_grid(w: Wanted, plan: Cheapest, lead: u32, nts: u32) -> MultiGrid
     }
 }
 
-// A grid with an envelope on each onset, the first one isolated where that is worth it.
+// A grid with an envelope on each onset, the first one isolated where that is worth it. A plan that costs no more than the isolating border
+// is worth wins whatever the plain one costs.
 pub fn multi_onset_grid(onsets: Onsets, lead: u32, nts: u32) -> MultiGrid
     requires { ⌜ Case nts lead (onsetList onsets) × (1 ≤ onsets .count) ⌝ }
     ensures { λ r. ⌜ r ≡ multiOf (multiOnsetGrid (onsetList onsets) lead nts) ⌝ }
 {
     let with_isolating = isolated_borders(onsets);
-    let without = bare_borders(onsets);
     let isolated = varvar_from_borders(lead, with_isolating, nts);
+    if !is_cheaper(ISOLATION_WORTH, isolated) {
+        return planned_grid(with_isolating, isolated, lead, nts);
+    }
+    let without = bare_borders(onsets);
     let plain = varvar_from_borders(lead, without, nts);
     if plain_wins(isolated, plain) {
         return planned_grid(without, plain, lead, nts);
