@@ -9,9 +9,13 @@ use native.Mathlib.Numerals.{add-one}
 use borrow.Author.Tests.{le-leb, lt-leb, eq-eqb, ne-eqb}
 use lib.ListN.{length, getD, replicate, List·getD-eq-default}
 use lib.Seq.{ext-getD}
-use Rattle.sbr_grid.specs.Grid.{first, Grid, numEnv}
-use Rattle.sbr_grid.proofs.Laws.{length-first, getD-first}
-use Rattle.sbr_time_grid.specs.TimeGrid.{absBordLead, absBordTrail, nRelLead, relBordLead, relBordTrail, sum, listFrom, tE}
+use Rattle.sbr_grid.specs.declared.FrameClass.{FrameClass}
+use Rattle.sbr_grid.specs.declared.FrameClass.the-variants.{FixFix, FixVar, VarFix, VarVar}
+use Rattle.sbr_grid.specs.declared.SbrGrid.{SbrGrid}
+use Rattle.sbr_grid.specs.Grid.{byClass, first, Grid, numEnv, viewOf}
+use Rattle.sbr_grid.proofs.Laws.{length-first, getD-first, lengths}
+use Rattle.sbr_time_grid.specs.TimeGrid.{nint, slots, absBordLead, absBordTrail, nRelLead, nRelTrail, relBordLead, relBordTrail, sum, listFrom, tE}
+use Rattle.sbr_time_grid.proofs.Laws.{trail-used}
 
 -- the border after the first l lengths, and the one before the last le - l
 abbrev pub leadAt : ℕ → Grid → ℕ → ℕ
@@ -31,30 +35,55 @@ unfolding sum
 sum-more f k = rw add-one
 
 -- the first border
-pub lead-first : (n : ℕ) (g : Grid) → absBordLead g ≡ leadAt n g 0
-lead-first n g = omega (arith, sum-none (relBordLead n g))
+pub lead-first : (f : ℕ → ℕ) (a : ℕ) → a ≡ a + sum f 0
+lead-first f a = omega (arith, sum-none f)
 
 -- one leading length further
-pub lead-next : (n : ℕ) (g : Grid) (l b r : ℕ) → b ≡ leadAt n g l → r ≡ relBordLead n g l → b + r ≡ leadAt n g (l + 1)
-lead-next n g l b r e f = omega (arith, sum-more (relBordLead n g) l)
+pub lead-next : (f : ℕ → ℕ) (a l b r : ℕ) → b ≡ a + sum f l → r ≡ f l → b + r ≡ a + sum f (l + 1)
+lead-next f a l b r e h = omega (arith, sum-more f l)
+
+-- sums of the same lengths
+pub sum-same : (f g : ℕ → ℕ) (k : ℕ) → ((i : ℕ) → i < k → f i ≡ g i) → sum f k ≡ sum g k
+unfolding sum
+sum-same f g zero h = refl
+sum-same f g (suc k) h = rw (sum-same f g k (λ i l. h i (omega arith)), h k (omega arith))
+
+-- the next law, by the class
+lead-by : (k : FrameClass) (s m l num : ℕ) (rel : List ℕ) → l < byClass k m 0 num num
+    → byClass k s 0 (slots (getD rel l 0)) (slots (getD rel l 0)) ≡ byClass k s 0 (slots (getD (first 0 num rel) l 0)) (slots (getD (first 0 num rel) l 0))
+lead-by FixFix s m l num rel h = refl
+lead-by FixVar s m l num rel h = refl
+lead-by VarFix s m l num rel h = rw (getD-first 0 num l rel h)
+lead-by VarVar s m l num rel h = rw (getD-first 0 num l rel h)
+
+-- the slots of a leading length, read off the record
+pub lead-read : (g : SbrGrid) (n l : ℕ) → l < nRelLead (viewOf g)
+    → byClass (g .«frame_class») (nint n (g .«num_env»)) 0 (slots (getD (g .«rel_bord_0») l 0)) (slots (getD (g .«rel_bord_0») l 0)) ≡ relBordLead n (viewOf g) l
+unfolding relBordLead nRelLead
+lead-read g n l h =
+    rw (lengths g .env)
+    (lead-by (g .«frame_class») _ (g .«num_env» - 1) l (g .«num_rel_0») (g .«rel_bord_0») (rw (lengths g .env, lengths g .rel0) at h))
+
+-- and of a trailing one
+pub trail-read : (g : SbrGrid) (l : ℕ) → l < nRelTrail (viewOf g) → slots (getD (g .«rel_bord_1») l 0) ≡ relBordTrail (viewOf g) l
+trail-read g l h = rw (getD-first 0 (g .«num_rel_1») l (g .«rel_bord_1») (omega (arith, trail-used (viewOf g), lengths g)))
 
 -- the last border
-pub trail-first : (n : ℕ) (g : Grid) → absBordTrail n g ≡ absBordTrail n g - sum (relBordTrail g) 0
-trail-first n g = omega (arith, sum-none (relBordTrail g))
+pub trail-first : (f : ℕ → ℕ) (a : ℕ) → a ≡ a - sum f 0
+trail-first f a = omega (arith, sum-none f)
 
 -- one trailing length further back
-pub trail-next : (n : ℕ) (g : Grid) (l b r s : ℕ) → b ≡ absBordTrail n g - sum (relBordTrail g) l → r ≡ relBordTrail g l → s ≡ b - r
-    → s ≡ absBordTrail n g - sum (relBordTrail g) (l + 1)
-trail-next n g l b r s e f h = omega (arith, sum-more (relBordTrail g) l)
+pub trail-next : (f : ℕ → ℕ) (a l b r s : ℕ) → b ≡ a - sum f l → r ≡ f l → s ≡ b - r → s ≡ a - sum f (l + 1)
+trail-next f a l b r s e h k = omega (arith, sum-more f l)
 
 -- the border that is k trailing lengths before the last
-pub trail-at : (n : ℕ) (g : Grid) (le k l b : ℕ) → le - l ≡ k → b ≡ absBordTrail n g - sum (relBordTrail g) k → b ≡ trailAt n g le l
-trail-at n g le k l b e f = rw e f
+pub trail-at : (f : ℕ → ℕ) (a le k l b : ℕ) → le - l ≡ k → b ≡ a - sum f k → b ≡ a - sum f (le - l)
+trail-at f a le k l b e h = rw e h
 
 -- a border up to the last leading length
 pub border-lead : (n : ℕ) (g : Grid) (l : ℕ) → nRelLead g < numEnv g → l ≤ nRelLead g → tE n g l ≡ leadAt n g l
 unfolding tE
-border-lead n g zero a h = lead-first n g
+border-lead n g zero a h = lead-first _ _
 border-lead n g (suc l) a h =
     rw (ne-eqb (suc l) 0 (omega arith), ne-eqb (suc l) (numEnv g) (omega arith), le-leb (suc l) (nRelLead g) h)
 
@@ -62,7 +91,7 @@ border-lead n g (suc l) a h =
 past : (n : ℕ) (g : Grid) (l : ℕ) → nRelLead g < l → l ≤ numEnv g → Dec (l ≡ numEnv g) → tE n g l ≡ trailAt n g (numEnv g) l
 unfolding tE
 past n g l a h (yes e) =
-    rw (ne-eqb l 0 (omega arith), eq-eqb l (numEnv g) e) (trail-at n g (numEnv g) 0 l _ (omega arith) (trail-first n g))
+    rw (ne-eqb l 0 (omega arith), eq-eqb l (numEnv g) e) (trail-at _ _ (numEnv g) 0 l _ (omega arith) (trail-first _ _))
 past n g l a h (no e) = rw (ne-eqb l 0 (omega arith), ne-eqb l (numEnv g) e, lt-leb l (nRelLead g) a)
 
 -- a border past the last leading length

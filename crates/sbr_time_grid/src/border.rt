@@ -5,8 +5,8 @@ use sbr_grid::TimeGrid;
 ghost use mathlib.Core.Path.{_≡_};
 ghost use mathlib.Core.Bool.{true};
 ghost use Prim.Native.Nat.{ℕ, _+_, _-_, _*_, _≤_, _<_};
-ghost use lib.ListN.{getD};
-ghost use Rattle.sbr_grid.specs.Grid.{first, viewOf};
+ghost use lib.ListN.{length, getD};
+ghost use Rattle.sbr_grid.specs.Grid.{byClass, first, viewOf};
 ghost use Rattle.sbr_time_grid.specs.TimeGrid.{nint, slots, absBordLead, absBordTrail, nRelLead, nRelTrail, relBordLead, relBordTrail, sum, listFrom, tE, rises, countsFit, bordersFit};
 
 // num / den to the nearest whole number, halves up.
@@ -114,56 +114,53 @@ pub fn borders_fit(g: SbrGrid) -> bool
     }
 }
 
-fn rel_bord_lead(g: SbrGrid, n: u32, l: usize) -> u32
-    requires { ⌜ (n ≤ 16) × (countsFit (viewOf g) ≡ true) × (l < nRelLead (viewOf g)) ⌝ }
-    ensures { λ r. ⌜ r ≡ relBordLead n (viewOf g) l ⌝ }
+// The slots of the l-th leading length: the step of FixFix, or a stored length.
+fn rel_bord_lead(class: FrameClass, step: u32, rel: [u8; SbrGrid::MAX_REL_BORD], l: usize) -> u32
+    requires { ⌜ (l < 4) × (step ≤ 512) ⌝ }
+    ensures { λ r. ⌜ r ≡ byClass class step 0 (slots (getD rel l 0)) (slots (getD rel l 0)) ⌝ }
     ensures { λ r. ⌜ r ≤ 512 ⌝ }
 {
-    let class = g.frame_class;
     match class {
-        FrameClass::FixFix => nint_ratio(n, g.num_env as u32),
+        FrameClass::FixFix => step,
         FrameClass::FixVar => 0,
-        FrameClass::VarFix | FrameClass::VarVar => slots_of(g.rel_bord_0[l]),
+        FrameClass::VarFix | FrameClass::VarVar => slots_of(rel[l]),
     }
-}
-
-fn rel_bord_trail(g: SbrGrid, l: usize) -> u32
-    requires { ⌜ (countsFit (viewOf g) ≡ true) × (l < nRelTrail (viewOf g)) ⌝ }
-    ensures { λ r. ⌜ r ≡ relBordTrail (viewOf g) l ⌝ }
-{
-    slots_of(g.rel_bord_1[l])
 }
 
 // The borders from the first to the last that a leading length gives; the other places as they were.
-fn leading(g: SbrGrid, n: u32, mut t: [u32; TimeGrid::MAX_BORDERS]) -> [u32; TimeGrid::MAX_BORDERS]
-    requires { ⌜ (n ≤ 16) × (countsFit (viewOf g) ≡ true) ⌝ }
-    ensures { λ r. ⌜ ((j : ℕ) → j ≤ nRelLead (viewOf g) → getD r j 0 ≡ absBordLead (viewOf g) + sum (relBordLead n (viewOf g)) j) ⌝ }
-    ensures { λ r. ⌜ ((j : ℕ) → nRelLead (viewOf g) < j → getD r j 0 ≡ getD t j 0) ⌝ }
+fn leading(g: SbrGrid, n: u32, t: &mut [u32; TimeGrid::MAX_BORDERS])
+    requires { ⌜ (n ≤ 16) × (countsFit (viewOf g) ≡ true) × (length (now t) ≡ 6) ⌝ }
+    ensures { λ r. ⌜ ((j : ℕ) → j ≤ nRelLead (viewOf g) → getD (now (t .exit)) j 0 ≡ absBordLead (viewOf g) + sum (relBordLead n (viewOf g)) j) ⌝ }
+    ensures { λ r. ⌜ ((j : ℕ) → nRelLead (viewOf g) < j → getD (now (t .exit)) j 0 ≡ getD (now (t .entry)) j 0) ⌝ }
+    ensures { λ r. ⌜ length (now (t .exit)) ≡ 6 ⌝ }
 {
+    let class = g.frame_class;
+    let rel = g.rel_bord_0;
+    let step = nint_ratio(n, g.num_env as u32);
     let mut b = abs_bord_lead(g);
     t[0] = b;
     for l in 0..n_rel_lead(g) {
-        b += rel_bord_lead(g, n, l);
+        b += rel_bord_lead(class, step, rel, l);
         t[l + 1] = b;
     }
-    t
 }
 
 // The borders that trailing lengths give, from the last one back; the other places as they were.
-fn trailing(g: SbrGrid, n: u32, mut t: [u32; TimeGrid::MAX_BORDERS]) -> [u32; TimeGrid::MAX_BORDERS]
-    requires { ⌜ (n ≤ 16) × (countsFit (viewOf g) ≡ true) ⌝ }
-    ensures { λ r. ⌜ ((j : ℕ) → nRelLead (viewOf g) < j → j ≤ g .«num_env» → getD r j 0 ≡ absBordTrail n (viewOf g) - sum (relBordTrail (viewOf g)) (g .«num_env» - j)) ⌝ }
-    ensures { λ r. ⌜ ((j : ℕ) → j ≤ nRelLead (viewOf g) → getD r j 0 ≡ getD t j 0) ⌝ }
-    ensures { λ r. ⌜ ((j : ℕ) → g .«num_env» < j → getD r j 0 ≡ getD t j 0) ⌝ }
+fn trailing(g: SbrGrid, n: u32, t: &mut [u32; TimeGrid::MAX_BORDERS])
+    requires { ⌜ (n ≤ 16) × (countsFit (viewOf g) ≡ true) × (length (now t) ≡ 6) ⌝ }
+    ensures { λ r. ⌜ ((j : ℕ) → nRelLead (viewOf g) < j → j ≤ g .«num_env» → getD (now (t .exit)) j 0 ≡ absBordTrail n (viewOf g) - sum (relBordTrail (viewOf g)) (g .«num_env» - j)) ⌝ }
+    ensures { λ r. ⌜ ((j : ℕ) → j ≤ nRelLead (viewOf g) → getD (now (t .exit)) j 0 ≡ getD (now (t .entry)) j 0) ⌝ }
+    ensures { λ r. ⌜ ((j : ℕ) → g .«num_env» < j → getD (now (t .exit)) j 0 ≡ getD (now (t .entry)) j 0) ⌝ }
+    ensures { λ r. ⌜ length (now (t .exit)) ≡ 6 ⌝ }
 {
+    let rel = g.rel_bord_1;
     let le = g.num_env;
     let mut b = abs_bord_trail(g, n);
     t[le] = b;
     for l in 0..n_rel_trail(g) {
-        b = less(b, rel_bord_trail(g, l));
+        b = less(b, slots_of(rel[l]));
         t[le - 1 - l] = b;
     }
-    t
 }
 
 // All borders; places past the last are zero.
@@ -171,14 +168,16 @@ pub fn t_e(g: SbrGrid, n: u32) -> [u32; TimeGrid::MAX_BORDERS]
     requires { ⌜ (n ≤ 16) × (countsFit (viewOf g) ≡ true) ⌝ }
     ensures { λ r. ⌜ r ≡ first 0 6 (listFrom (tE n (viewOf g)) 0 (g .«num_env» + 1)) ⌝ }
 {
-    let t = leading(g, n, [0u32; TimeGrid::MAX_BORDERS]);
-    trailing(g, n, t)
+    let mut t = [0u32; TimeGrid::MAX_BORDERS];
+    leading(g, n, &mut t);
+    trailing(g, n, &mut t);
+    t
 }
 
 // Each border is above the one before it.
-pub fn rises(t: [u32; TimeGrid::MAX_BORDERS], le: usize) -> bool
+pub fn rises(t: &[u32; TimeGrid::MAX_BORDERS], le: usize) -> bool
     requires { ⌜ le ≤ 5 ⌝ }
-    ensures { λ r. ⌜ r ≡ rises (λ l. getD t l 0) le ⌝ }
+    ensures { λ r. ⌜ r ≡ rises (λ l. getD (now (t .entry)) l 0) le ⌝ }
 {
     for l in 0..le {
         if t[l + 1] <= t[l] {

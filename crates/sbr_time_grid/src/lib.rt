@@ -45,7 +45,7 @@ pub fn derive_time_grid(grid: SbrGrid, num_time_slots: usize) -> Derived
     }
     let le = grid.num_env;
     let t_e = border::t_e(grid, n);
-    if !border::rises(t_e, le) {
+    if !border::rises(&t_e, le) {
         return refusal(Refusal::TimeGrid);
     }
     if !noise::noise_fits(grid) {
@@ -57,7 +57,7 @@ pub fn derive_time_grid(grid: SbrGrid, num_time_slots: usize) -> Derived
             num_env: le,
             t_e,
             num_noise: grid.num_noise,
-            t_q: noise::t_q(grid, t_e),
+            t_q: noise::t_q(grid, &t_e),
             l_a: noise::l_a(grid),
         },
     }

@@ -53,9 +53,9 @@ pub fn noise_fits(g: SbrGrid) -> bool
 }
 
 // The noise borders among the envelope borders t; places past the last are zero.
-pub fn t_q(g: SbrGrid, t: [u32; TimeGrid::MAX_BORDERS]) -> [u32; TimeGrid::MAX_NOISE_BORDERS]
+pub fn t_q(g: SbrGrid, t: &[u32; TimeGrid::MAX_BORDERS]) -> [u32; TimeGrid::MAX_NOISE_BORDERS]
     requires { ⌜ (0 < g .«num_env») × (g .«num_env» ≤ 5) × (noiseFits (viewOf g) ≡ true) ⌝ }
-    ensures { λ r. ⌜ r ≡ first 0 3 (cond (leb (g .«num_env») 1) (getD t 0 0 ∷ getD t (g .«num_env») 0 ∷ []) (getD t 0 0 ∷ getD t (middleBorder (viewOf g)) 0 ∷ getD t (g .«num_env») 0 ∷ [])) ⌝ }
+    ensures { λ r. ⌜ r ≡ first 0 3 (cond (leb (g .«num_env») 1) (getD (now (t .entry)) 0 0 ∷ getD (now (t .entry)) (g .«num_env») 0 ∷ []) (getD (now (t .entry)) 0 0 ∷ getD (now (t .entry)) (middleBorder (viewOf g)) 0 ∷ getD (now (t .entry)) (g .«num_env») 0 ∷ [])) ⌝ }
 {
     let le = g.num_env;
     if le <= 1 {

@@ -9,10 +9,10 @@ use Rattle.sbr_time_grid.proofs.border.rises.Statement.{statement}
 use Rattle.sbr_time_grid.proofs.border.rises.Tie as tie
 
 abbrev Inv-loop : tie.InvT-loop
-Inv-loop le t l₀ l = (l ≤ le) × (rises (λ j. getD t j 0) l ≡ true)
+Inv-loop t le l₀ l = (l ≤ le) × (rises (λ j. getD t j 0) l ≡ true)
 
 abbrev μ-loop : tie.MeasureT-loop
-μ-loop le t l₀ l = le - l
+μ-loop t le l₀ l = le - l
 
 loop-holds : tie.Need-loop-holds Inv-loop μ-loop
 unfolding rises
@@ -24,17 +24,17 @@ add-if1 c = omega arith
 mul-if1 : tie.Need-mul-if1 Inv-loop μ-loop
 mul-if1 c = omega arith
 
-array-read-if1 : tie.Need-array-read-if1 Inv-loop μ-loop
-array-read-if1 c = omega arith
+element-copy-out-if1 : tie.Need-element-copy-out-if1 Inv-loop μ-loop
+element-copy-out-if1 c = omega arith
 
 mul-if1-2 : tie.Need-mul-if1-2 Inv-loop μ-loop
 mul-if1-2 c = omega arith
 
-array-read-if1-2 : tie.Need-array-read-if1-2 Inv-loop μ-loop
-array-read-if1-2 c = omega arith
+element-copy-out-if1-2 : tie.Need-element-copy-out-if1-2 Inv-loop μ-loop
+element-copy-out-if1-2 c = omega arith
 
 returns : tie.Need-returns Inv-loop μ-loop
-returns c = rises-fails _ _ _ (c .before .loop-test .taken) (omega arith)
+returns c = rises-fails _ _ _ (c .before .before .before .loop-test .taken) (omega arith)
 
 add-l : tie.Need-add-l Inv-loop μ-loop
 add-l c = omega arith
@@ -43,7 +43,7 @@ loop-less : tie.Need-loop-less Inv-loop μ-loop
 loop-less c = omega arith
 
 loop-again : tie.Need-loop-again Inv-loop μ-loop
-loop-again c = (omega arith, rises-more _ _ (c .before .before .loop .inv .1) (omega arith))
+loop-again c = (omega arith, rises-more _ _ (c .before .before .before .before .loop .inv .1) (omega arith))
 
 returns-2 : tie.Need-returns-2 Inv-loop μ-loop
 returns-2 c =
@@ -60,9 +60,9 @@ rises-spec =
     loop-holds
     add-if1
     mul-if1
-    array-read-if1
+    element-copy-out-if1
     mul-if1-2
-    array-read-if1-2
+    element-copy-out-if1-2
     returns
     add-l
     loop-less
