@@ -77,40 +77,40 @@ fn case(rng: &mut Rng, slots: usize, onsets: usize, wide: bool) -> Case {
 }
 
 fn rust_elect(c: &Case) -> usize {
-    black_box(c.encoder.elect(&c.columns, c.frame.previous)).0.num_env
+    black_box(&c.encoder.elect(&c.columns, c.frame.previous)).0.num_env
 }
 
 fn port_elect(c: &Case) -> usize {
     let (mut flag, mut record) = (0, NEW);
     let f = &c.frame;
     port::elect_grid(&f.x, &f.high, &f.low, f.previous, 1, f.slots as u64, &mut flag, &mut record);
-    black_box(record).numbers[1] as usize
+    black_box(&record).numbers[1] as usize
 }
 
 fn rust_time(c: &Case) -> usize {
-    black_box(derive_time_grid(&c.grid, c.frame.slots as i32).unwrap()).t_e.len()
+    black_box(&derive_time_grid(&c.grid, c.frame.slots as i32).unwrap()).t_e.len()
 }
 
 fn port_time(c: &Case) -> usize {
     let mut t = NO_TIMES;
     port::derive_time_grid(c.frame.slots as u64, &c.record, &mut t);
-    black_box(t).t_e[1] as usize
+    black_box(&t).t_e[1] as usize
 }
 
 fn rust_write(c: &Case) -> usize {
     let mut w = BitWriter::default();
     oracle::sbr_writer::write_grid(&mut w, &c.grid).unwrap();
-    black_box(w).width as usize
+    black_box(&w).width as usize
 }
 
 fn port_write(c: &Case) -> usize {
     let (mut bytes, mut at) = ([0u8; 8], 3);
     port::write_grid(&mut bytes, &mut at, &c.record);
-    black_box(bytes)[0] as usize
+    black_box(&bytes)[0] as usize
 }
 
 fn rust_energies(c: &Case) -> usize {
-    black_box(c.encoder.estimate(&c.columns, &c.grid, &c.t_e)).len()
+    black_box(&c.encoder.estimate(&c.columns, &c.grid, &c.t_e)).len()
 }
 
 fn port_energies(c: &Case) -> usize {
@@ -125,8 +125,8 @@ fn rust_frame(c: &Case) -> usize {
     let time = derive_time_grid(&grid, c.frame.slots as i32).unwrap();
     let mut w = BitWriter::default();
     oracle::sbr_writer::write_grid(&mut w, &grid).unwrap();
-    black_box(w);
-    black_box(c.encoder.estimate(&c.columns, &grid, &time.t_e)).len()
+    black_box(&w);
+    black_box(&c.encoder.estimate(&c.columns, &grid, &time.t_e)).len()
 }
 
 fn port_frame(c: &Case) -> usize {
@@ -136,13 +136,13 @@ fn port_frame(c: &Case) -> usize {
 fn rust_read(c: &Case) -> usize {
     let mut reader = BitReader::new(&c.bits, 0);
     let g = SbrGrid::parse(&mut reader).unwrap();
-    black_box(derive_time_grid(&g, c.frame.slots as i32).unwrap()).t_e.len()
+    black_box(&derive_time_grid(&g, c.frame.slots as i32).unwrap()).t_e.len()
 }
 
 fn port_read(c: &Case) -> usize {
     let (mut position, mut border, mut r, mut t) = (0, c.frame.previous, NEW, NO_TIMES);
     port::read_grid(&c.bits, c.frame.slots as u64, &mut position, &mut border, &mut r, &mut t);
-    black_box((r, t)).1.t_e[1] as usize
+    black_box(&(&r, &t)).1.t_e[1] as usize
 }
 
 /// Nanoseconds a call, over all cases, repeated.
