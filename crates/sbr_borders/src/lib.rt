@@ -35,8 +35,8 @@ pub enum Turn {
 }
 
 pub struct Turned {
-    pub turn: Turn,
     pub shifts: [u32; Wanted::MAX_BORDERS],
+    pub turn: Turn,
 }
 
 // Whether some count of leading lengths reaches every border.

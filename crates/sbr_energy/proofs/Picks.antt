@@ -1,7 +1,8 @@
 -- `maxOf` and `minOf` by the tests that the code makes.
-use Prim.Native.Nat.{_*_}
-use mathlib.Core.Path.{_≡_, refl}
+use Prim.Native.Nat.{ℕ, _*_}
+use mathlib.Core.Path.{_≡_, refl, _∙_}
 use mathlib.Core.Bool.{Bool, true, false, cond}
+use native.Mathlib.Omega.{arith}
 use borrow.Author.Tests.{eq-eqb}
 use lib.Ieee.{Float, nan, inf, fin, up, down, lt, ne, isNan}
 use Rattle.sbr_energy.specs.Floats.{maxOf, minOf}
@@ -46,3 +47,23 @@ max-is a b = rw (self a) (pick a b (isNan a) (isNan b) (lt a b) (nan-left a b) (
 -- the smaller number by the same two tests
 pub min-is : (a b : Float) → minOf a b ≡ cond (lt b a) b (cond (ne a a) b a)
 min-is a b = rw (self a) (pick a b (isNan a) (isNan b) (lt b a) (nan-right b a) (nan-left b a))
+
+-- the larger number by a test of the two, where the first is no NaN
+pub max-of-number : (a b : Float) → isNan a ≡ false → maxOf a b ≡ cond (lt a b) b a
+max-of-number a b n = max-is a b ∙ rw (self a, n)
+
+-- and the smaller
+pub min-of-number : (a b : Float) → isNan a ≡ false → minOf a b ≡ cond (lt b a) b a
+min-of-number a b n = min-is a b ∙ rw (self a, n)
+
+-- whether a number for which a test holds is a NaN, where the test fails at a NaN
+number-by : (t u : Bool) → (t ≡ true → u ≡ false) → u ≡ true → t ≡ false
+number-by true u f e = let z : _≡_ {A = ℕ} 0 1 = cc (f refl) in absurd (omega arith)
+number-by false u f e = refl
+
+-- what is above a number, and what is below one, is no NaN
+pub above-number : (a b : Float) → lt a b ≡ true → isNan b ≡ false
+above-number a b e = number-by (isNan b) (lt a b) (nan-right a b) e
+
+pub below-number : (a b : Float) → lt a b ≡ true → isNan a ≡ false
+below-number a b e = number-by (isNan a) (lt a b) (nan-left a b) e

@@ -1,7 +1,9 @@
 // Energies of samples, and the operations on numbers of 64 bits that elections and energies use: src/sbr_encoder.rs.
 ghost use mathlib.Core.Path.{_≡_};
 ghost use Prim.Native.Nat.{_+_, _*_, _≤_};
+ghost use mathlib.Core.Bool.{false};
 ghost use lib.ListN.{length};
+ghost use lib.Ieee.{isNan};
 ghost use Rattle.sbr_qmf.specs.Qmf.{columns};
 ghost use Rattle.sbr_energy.specs.Floats.{maxOf, minOf, meanOf, spreadIsHigh};
 ghost use Rattle.sbr_energy.specs.Energy.{bandSum, slotEnergies};
@@ -32,6 +34,21 @@ pub fn min(a: f64, b: f64) -> f64
     } else {
         a
     }
+}
+
+// The same two where the first is no NaN, as the largest and the smallest so far never are: one test each.
+pub fn raised(top: f64, x: f64) -> f64
+    requires { ⌜ isNan top ≡ false ⌝ }
+    ensures { λ r. ⌜ (r ≡ maxOf top x) × (isNan r ≡ false) ⌝ }
+{
+    if top < x { x } else { top }
+}
+
+pub fn lowered(least: f64, x: f64) -> f64
+    requires { ⌜ isNan least ≡ false ⌝ }
+    ensures { λ r. ⌜ (r ≡ minOf least x) × (isNan r ≡ false) ⌝ }
+{
+    if x < least { x } else { least }
 }
 
 // A sum over a count.

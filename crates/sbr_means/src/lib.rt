@@ -31,7 +31,7 @@ fn pair_sums(x: &[f64], k: usize, w: usize, t0: usize, t1: usize) -> Pair
     Pair { a: a, b: b }
 }
 
-// The same; the narrowest widths stand as numbers, so that the loop over the slots has none inside it.
+// The same; the commonest widths stand as numbers, so that the loop over the slots has none inside it.
 fn pair_of(x: &[f64], k: usize, w: usize, t0: usize, t1: usize) -> Pair
     requires { ⌜ (k + w + w ≤ 64) × (t0 ≤ t1) × (t1 ≤ 24) × ((2 * t1 + 2) * 128 ≤ length (now x)) ⌝ }
     ensures { λ r. ⌜ r .a ≡ bandTotal (columns (now (x .entry))) t0 t1 k (k + w) ⌝ }
@@ -42,6 +42,9 @@ fn pair_of(x: &[f64], k: usize, w: usize, t0: usize, t1: usize) -> Pair
     }
     if w == 2 {
         return pair_sums(x, k, 2, t0, t1);
+    }
+    if w == 4 {
+        return pair_sums(x, k, 4, t0, t1);
     }
     pair_sums(x, k, w, t0, t1)
 }

@@ -18,7 +18,7 @@ fn peak_of(e: &[f64; 24], n: usize) -> f64
 {
     let mut peak = 0.0;
     for i in 0..n {
-        peak = sbr_energy::max(peak, e[i]);
+        peak = sbr_energy::raised(peak, e[i]);
     }
     peak
 }

@@ -47,6 +47,15 @@ pub smallest-none : Ieee.div binary64 (ofBits binary64 0x3ff0_0000_0000_0000) ze
 unfolding smallestFrom Ieee.div ofBits
 smallest-none = refl
 
+-- neither is a NaN
+pub largest-number : Ieee.isNan zero64 ≡ false
+unfolding Ieee.isNan ofBits
+largest-number = refl
+
+pub smallest-number : Ieee.isNan (Ieee.div binary64 (ofBits binary64 0x3ff0_0000_0000_0000) zero64) ≡ false
+unfolding Ieee.isNan Ieee.div ofBits
+smallest-number = refl
+
 -- the test looks at the numbers in front alone
 pub spread-front : (k : ℕ) (ms u v : List Float) (r : Bool) → length ms ≡ k → v ≡ ms ++ u → r ≡ isSpread (take k v) → r ≡ isSpread ms
 spread-front k ms u v r n e h = rw (e, take-at ms u k n) at h

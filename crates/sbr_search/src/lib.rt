@@ -43,10 +43,10 @@ pub enum Cost {
 
 // The cheapest plan so far: the shifts, the slots that the end lies past the frame, the count of leading lengths.
 pub struct Cheapest {
-    pub cost: Cost,
     pub shifts: [u32; Wanted::MAX_BORDERS],
-    pub over: u32,
     pub leading: usize,
+    pub over: u32,
+    pub cost: Cost,
 }
 
 pub enum MultiOnset {

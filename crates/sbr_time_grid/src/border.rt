@@ -5,7 +5,7 @@ use sbr_grid::TimeGrid;
 ghost use mathlib.Core.Path.{_≡_};
 ghost use mathlib.Core.Bool.{true};
 ghost use Prim.Native.Nat.{ℕ, _+_, _-_, _*_, _≤_, _<_};
-ghost use lib.ListN.{length, getD};
+ghost use lib.ListN.{length, getD, replicate};
 ghost use Rattle.sbr_grid.specs.Grid.{byClass, first, viewOf};
 ghost use Rattle.sbr_time_grid.specs.TimeGrid.{nint, slots, absBordLead, absBordTrail, nRelLead, nRelTrail, relBordLead, relBordTrail, sum, listFrom, tE, rises, countsFit, bordersFit};
 
@@ -163,15 +163,13 @@ fn trailing(g: SbrGrid, n: u32, t: &mut [u32; TimeGrid::MAX_BORDERS])
     }
 }
 
-// All borders; places past the last are zero.
-pub fn t_e(g: SbrGrid, n: u32) -> [u32; TimeGrid::MAX_BORDERS]
-    requires { ⌜ (n ≤ 16) × (countsFit (viewOf g) ≡ true) ⌝ }
-    ensures { λ r. ⌜ r ≡ first 0 6 (listFrom (tE n (viewOf g)) 0 (g .«num_env» + 1)) ⌝ }
+// All borders, in an array of zeros.
+pub fn t_e(g: SbrGrid, n: u32, t: &mut [u32; TimeGrid::MAX_BORDERS])
+    requires { ⌜ (n ≤ 16) × (countsFit (viewOf g) ≡ true) × (now t ≡ replicate 6 0) ⌝ }
+    ensures { λ r. ⌜ now (t .exit) ≡ first 0 6 (listFrom (tE n (viewOf g)) 0 (g .«num_env» + 1)) ⌝ }
 {
-    let mut t = [0u32; TimeGrid::MAX_BORDERS];
-    leading(g, n, &mut t);
-    trailing(g, n, &mut t);
-    t
+    leading(g, n, t);
+    trailing(g, n, t);
 }
 
 // Each border is above the one before it.

@@ -44,7 +44,8 @@ pub fn derive_time_grid(grid: SbrGrid, num_time_slots: usize) -> Derived
         return refusal(Refusal::TimeGrid);
     }
     let le = grid.num_env;
-    let t_e = border::t_e(grid, n);
+    let mut t_e = [0u32; TimeGrid::MAX_BORDERS];
+    border::t_e(grid, n, &mut t_e);
     if !border::rises(&t_e, le) {
         return refusal(Refusal::TimeGrid);
     }

@@ -24,7 +24,15 @@ pair-sums-requires-3 : tie.Need-pair-sums-requires-3
 pair-sums-requires-3 c κs = search needs
 
 returns-3 : tie.Need-returns-3
-returns-3 c = search needs
+returns-3 c =
+    let e : c .before .before .before .before .before .args .w ≡ 4 = omega arith in
+    rw e (c .pair-sums3 .ensures)
+
+pair-sums-requires-4 : tie.Need-pair-sums-requires-4
+pair-sums-requires-4 c κs = search needs
+
+returns-4 : tie.Need-returns-4
+returns-4 c = search needs
 
 pub pair-of-spec : {M : Type 1} → statement M
 pair-of-spec =
@@ -35,4 +43,6 @@ pair-of-spec =
     pair-sums-requires-2
     returns-2
     pair-sums-requires-3
-    returns-3)
+    returns-3
+    pair-sums-requires-4
+    returns-4)

@@ -1,32 +1,33 @@
 use mathlib.Core.Path.{_≡_, refl}
+use mathlib.Core.Bool.{false}
 use Prim.Native.Nat.{_≤_, _-_}
 use native.Mathlib.Omega.{arith}
 use borrow.Author.Needs.{needs}
 use lib.ListN.{getD}
-use lib.Ieee.{nan}
+use lib.Ieee.{nan, isNan, ofBits}
 use Rattle.sbr_onsets.specs.Onsets.{peakOf}
 use Rattle.sbr_onsets.proofs.OnsetLaws.{peak-more}
 use Rattle.sbr_onsets.proofs.peak_of.Statement.{statement}
 use Rattle.sbr_onsets.proofs.peak_of.Tie as tie
 
 abbrev Inv-loop : tie.InvT-loop
-Inv-loop e n peak₀ i₀ peak i = (i ≤ n) × (peak ≡ peakOf (λ j. getD e j nan) i)
+Inv-loop e n peak₀ i₀ peak i = (i ≤ n) × (peak ≡ peakOf (λ j. getD e j nan) i) × (isNan peak ≡ false)
 
 abbrev μ-loop : tie.MeasureT-loop
 μ-loop e n peak₀ i₀ peak i = n - i
 
 loop-holds : tie.Need-loop-holds Inv-loop μ-loop
-unfolding peakOf
-loop-holds c = (omega arith, refl)
+unfolding peakOf isNan ofBits
+loop-holds c = (omega arith, refl, refl)
 
-mul-max : tie.Need-mul-max Inv-loop μ-loop
-mul-max c = omega arith
+mul-raised : tie.Need-mul-raised Inv-loop μ-loop
+mul-raised c = omega arith
 
-element-copy-out-max : tie.Need-element-copy-out-max Inv-loop μ-loop
-element-copy-out-max c = omega arith
+element-copy-out-raised : tie.Need-element-copy-out-raised Inv-loop μ-loop
+element-copy-out-raised c = omega arith
 
-max-requires : tie.Need-max-requires Inv-loop μ-loop
-max-requires c κs = search needs
+raised-requires : tie.Need-raised-requires Inv-loop μ-loop
+raised-requires c κs = c .before .before .loop .inv .2
 
 add-i : tie.Need-add-i Inv-loop μ-loop
 add-i c = omega arith
@@ -36,7 +37,7 @@ loop-less c = omega arith
 
 loop-again : tie.Need-loop-again Inv-loop μ-loop
 loop-again c =
-    (omega arith, peak-more _ _ _ _ (c .before .before .before .loop .inv .1) (c .max .ensures))
+    (omega arith, peak-more _ _ _ _ (c .before .before .before .loop .inv .1) (c .raised .ensures .0), c .raised .ensures .1)
 
 returns : tie.Need-returns Inv-loop μ-loop
 returns c =
@@ -50,9 +51,9 @@ peak-of-spec =
     Inv-loop
     μ-loop
     loop-holds
-    mul-max
-    element-copy-out-max
-    max-requires
+    mul-raised
+    element-copy-out-raised
+    raised-requires
     add-i
     loop-less
     loop-again

@@ -3,10 +3,10 @@ use mathlib.Core.Bool.{false}
 use Prim.Native.Nat.{_-_, _≤_}
 use lib.ListN.{take}
 use lib.Seq.{length-take-le}
-use lib.Ieee.{inf}
+use lib.Ieee.{inf, isNan}
 use Rattle.sbr_energy.specs.Floats.{zero64}
 use Rattle.sbr_resolution.specs.Resolution.{largestFrom, smallestFrom}
-use Rattle.sbr_resolution.proofs.Spread.{largest-none, smallest-none, largest-next, smallest-next, spread-few, spread-low, spread-high}
+use Rattle.sbr_resolution.proofs.Spread.{largest-none, smallest-none, largest-number, smallest-number, largest-next, smallest-next, spread-few, spread-low, spread-high}
 use borrow.Author.Needs.{needs}
 use native.Mathlib.Omega.{arith}
 use Rattle.sbr_resolution.proofs.is_spread.Statement.{statement}
@@ -14,7 +14,7 @@ use Rattle.sbr_resolution.proofs.is_spread.Tie as tie
 
 abbrev Inv-loop : tie.InvT-loop
 Inv-loop means k largest₀ smallest₀ j₀ largest smallest j =
-    (j ≤ k) × (largest ≡ largestFrom zero64 (take j means)) × (smallest ≡ smallestFrom (inf false) (take j means))
+    (j ≤ k) × (largest ≡ largestFrom zero64 (take j means)) × (smallest ≡ smallestFrom (inf false) (take j means)) × (isNan largest ≡ false) × (isNan smallest ≡ false)
 
 abbrev μ-loop : tie.MeasureT-loop
 μ-loop means k largest₀ smallest₀ j₀ largest smallest j = k - j
@@ -25,7 +25,7 @@ returns c =
     spread-few _ (omega (arith, length-take-le (a .k) (a .means .now) (omega arith)))
 
 loop-holds : tie.Need-loop-holds Inv-loop μ-loop
-loop-holds c = (omega arith, largest-none, smallest-none)
+loop-holds c = (omega arith, largest-none, smallest-none, largest-number, smallest-number)
 
 mul-m : tie.Need-mul-m Inv-loop μ-loop
 mul-m c = search needs
@@ -33,11 +33,11 @@ mul-m c = search needs
 shared-slice-read-m : tie.Need-shared-slice-read-m Inv-loop μ-loop
 shared-slice-read-m c = omega arith
 
-max-requires : tie.Need-max-requires Inv-loop μ-loop
-max-requires c κs = search needs
+raised-requires : tie.Need-raised-requires Inv-loop μ-loop
+raised-requires c κs = search needs
 
-min-requires : tie.Need-min-requires Inv-loop μ-loop
-min-requires c κs = search needs
+lowered-requires : tie.Need-lowered-requires Inv-loop μ-loop
+lowered-requires c κs = search needs
 
 add-j : tie.Need-add-j Inv-loop μ-loop
 add-j c = omega arith
@@ -48,10 +48,10 @@ loop-less c = omega arith
 loop-again : tie.Need-loop-again Inv-loop μ-loop
 loop-again c =
     let l = c .before .before .before .before .loop in
-    (omega arith, c .before .max .ensures ∙ largest-next _ _ (l .j) (omega arith) (l .inv .1), c .min .ensures ∙ smallest-next _ _ (l .j) (omega arith) (l .inv .2))
+    (omega arith, c .before .raised .ensures .0 ∙ largest-next _ _ (l .j) (omega arith) (l .inv .1), c .lowered .ensures .0 ∙ smallest-next _ _ (l .j) (omega arith) (l .inv .2), c .before .raised .ensures .1, c .lowered .ensures .1)
 
-max-requires-2 : tie.Need-max-requires-2 Inv-loop μ-loop
-max-requires-2 c κs = search needs
+max-requires : tie.Need-max-requires Inv-loop μ-loop
+max-requires c κs = search needs
 
 spread-is-high-requires : tie.Need-spread-is-high-requires Inv-loop μ-loop
 spread-is-high-requires c κs = search needs
@@ -63,7 +63,7 @@ returns-2 c =
     let e : l .j ≡ a .k = omega arith in
     let n = length-take-le (a .k) (a .means .now) (omega arith) in
     c .spread-is-high .ensures
-    ∙ rw (c .before .max2 .ensures) (spread-high _ _ _ (omega arith) (rw e at (l .inv .1)) (rw e at (l .inv .2)) (c .before .before .if2 .taken))
+    ∙ rw (c .before .max .ensures) (spread-high _ _ _ (omega arith) (rw e at (l .inv .1)) (rw e at (l .inv .2)) (c .before .before .if2 .taken))
 
 returns-3 : tie.Need-returns-3 Inv-loop μ-loop
 returns-3 c =
@@ -83,12 +83,12 @@ is-spread-spec =
     loop-holds
     mul-m
     shared-slice-read-m
-    max-requires
-    min-requires
+    raised-requires
+    lowered-requires
     add-j
     loop-less
     loop-again
-    max-requires-2
+    max-requires
     spread-is-high-requires
     returns-2
     returns-3)

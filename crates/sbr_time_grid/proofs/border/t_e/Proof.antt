@@ -1,5 +1,7 @@
-use mathlib.Core.Path.{refl, _∙_}
+use mathlib.Core.Path.{ap, _∙_}
+use borrow.Author.Needs.{needs}
 use native.Mathlib.Omega.{arith}
+use lib.ListN.{length}
 use Rattle.sbr_grid.specs.Grid.{viewOf}
 use Rattle.sbr_grid.proofs.Laws.{lengths}
 use Rattle.sbr_time_grid.proofs.Laws.{fit}
@@ -8,12 +10,10 @@ use Rattle.sbr_time_grid.proofs.border.t_e.Statement.{statement}
 use Rattle.sbr_time_grid.proofs.border.t_e.Tie as tie
 
 leading-requires : tie.Need-leading-requires
-leading-requires c κs = (c .before .pre .0, c .before .pre .1, refl)
+leading-requires c κs = let s = c .before in (s .pre .0, s .pre .1, ap length (s .pre .2))
 
 trailing-requires : tie.Need-trailing-requires
-trailing-requires c κs =
-    let s = c .before .before .before in
-    (s .pre .0, s .pre .1, c .before .leading .ensures .1 .1)
+trailing-requires c κs = search needs
 
 returns : tie.Need-returns
 returns c =
@@ -23,7 +23,7 @@ returns c =
     let t = c .trailing .ensures in
     let k = fit g (s .pre .1) in
     all-borders (s .args .n) (viewOf g) (g .«num_env») 6 _ (lengths g .env) (omega arith)
-    (λ j h. t .1 .0 j h ∙ l .0 j h) (t .0) (λ j h. t .1 .1 .0 j h ∙ l .1 .0 j (omega arith) ∙ zeros-at 6 j) (t .1 .1 .1)
+    (λ j h. t .1 .0 j h ∙ l .0 j h) (t .0) (λ j h. t .1 .1 .0 j h ∙ l .1 .0 j (omega arith) ∙ rw (s .pre .2) (zeros-at 6 j)) (t .1 .1 .1)
 
 pub t-e-spec : {M : Type 1} → statement M
 t-e-spec = tie.close (tie.spec leading-requires trailing-requires returns)
