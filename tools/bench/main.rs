@@ -11,7 +11,7 @@ use oracle::sbr_grid::SbrGrid;
 use oracle::sbr_qmf::Complex;
 use oracle::sbr_time_grid::derive_time_grid;
 use oxideav_core::bits::{BitReader, BitWriter};
-use port::{Record, Times};
+use port::{Record, Times, Turn};
 use std::cell::RefCell;
 use std::hint::black_box;
 use std::time::Instant;
@@ -133,6 +133,17 @@ fn port_frame(c: &Case) -> usize {
     port_elect(c) + port_time(c) + port_write(c) + port_energies(c)
 }
 
+/// The same frame as a host sends it: one call for election, time grid and writing, one for the energies.
+fn port_turn(c: &Case) -> usize {
+    let f = &c.frame;
+    let mut turn = Turn { position: 3, border: f.previous, transient: 0, record: NEW, times: NO_TIMES };
+    let (mut bytes, mut rows, mut n) = ([0u8; 8], c.rows.borrow_mut(), 0);
+    port::send_frame(&f.x, &f.high, &f.low, 1, f.slots as u64, &mut bytes, &mut turn);
+    black_box(&bytes);
+    port::estimate_envelopes(&f.x, &f.high, &f.low, f.slots as u64, &turn.record, &mut *rows, &mut n);
+    black_box(&*rows)[0] as usize
+}
+
 fn rust_read(c: &Case) -> usize {
     let mut reader = BitReader::new(&c.bits, 0);
     let g = SbrGrid::parse(&mut reader).unwrap();
@@ -165,12 +176,12 @@ fn row(name: &str, rust: fn(&Case) -> usize, port: fn(&Case) -> usize, cases: &[
     both.sort_by(|a, b| (a.0 / a.1).total_cmp(&(b.0 / b.1)));
     let (r, p) = both[rounds / 2];
     let ratio = |i: usize| both[i].0 / both[i].1;
-    println!("{name:<44} {r:>10.0} {p:>10.0} {:>7.2}   {:.2} to {:.2}", r / p, ratio(0), ratio(rounds - 1));
+    println!("{name:<50} {r:>10.0} {p:>10.0} {:>7.2}   {:.2} to {:.2}", r / p, ratio(0), ratio(rounds - 1));
 }
 
 fn main() {
     let rounds: usize = std::env::args().nth(1).map_or(15, |s| s.parse().expect("usage: bench [ROUNDS]"));
-    println!("{:<44} {:>10} {:>10} {:>7}   spread", "", "Rust, ns", "here, ns", "ratio");
+    println!("{:<50} {:>10} {:>10} {:>7}   spread", "", "Rust, ns", "here, ns", "ratio");
     let mut rng = Rng(1);
     for slots in [16, 15] {
         for wide in [true, false] {
@@ -182,6 +193,7 @@ fn main() {
                 mix.extend(cases);
             }
             row(&format!("frame, {slots} slots, {tables}, mix"), rust_frame, port_frame, &mix, rounds);
+            row(&format!("frame as a turn, {slots} slots, {tables}, mix"), rust_frame, port_turn, &mix, rounds);
             row(&format!("election, {slots} slots, {tables}, mix"), rust_elect, port_elect, &mix, rounds);
             row(&format!("energies, {slots} slots, {tables}, mix"), rust_energies, port_energies, &mix, rounds);
             row(&format!("time grid, {slots} slots, mix"), rust_time, port_time, &mix, rounds);
@@ -191,4 +203,5 @@ fn main() {
     }
     let memory: Vec<Case> = (0..1500).map(|i| case(&mut rng, 16, i % 4, true)).collect();
     row("frame, 16 slots, 54 bands, mix, from memory", rust_frame, port_frame, &memory, rounds);
+    row("frame as a turn, 16 slots, 54 bands, from memory", rust_frame, port_turn, &memory, rounds);
 }

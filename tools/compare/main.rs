@@ -8,7 +8,7 @@ use oracle::sbr_grid::{FrameClass, SbrGrid};
 use oracle::sbr_qmf::Complex;
 use oracle::sbr_time_grid::derive_time_grid;
 use oxideav_core::bits::{BitReader, BitWriter};
-use port::{Record, Times};
+use port::{Record, Times, Turn};
 use std::collections::BTreeMap;
 
 /// What stands in every output before a call, so that a touched one shows.
@@ -118,8 +118,31 @@ fn compare_frame(f: &Frame, rng: &mut Rng, counts: &mut Counts) -> Result<Record
     }
     compare_time(f.slots, &record, counts)?;
     compare_write(&record, rng, counts)?;
+    compare_send(f, &record, flag, rng, counts)?;
     compare_energies(f, &x, &encoder, &record, rng, counts)?;
     Ok(record)
+}
+
+/// A turn is the election, time grid and writing that were compared before, in one call: the same record, flag, times, bits and ends.
+fn compare_send(f: &Frame, record: &Record, flag: u32, rng: &mut Rng, counts: &mut Counts) -> Result<(), String> {
+    let before: Vec<u8> = (0..rng.below(9)).map(|_| rng.next() as u8).collect();
+    let start = rng.below(8 * before.len() + 4) as u64;
+    let old = Turn { position: start, border: f.previous, transient: 99, record: OLD, times: OLD_TIMES };
+    let mut wanted = Turn { transient: flag, record: *record, ..old };
+    let mut expected = before.clone();
+    port::derive_time_grid(f.slots as u64, record, &mut wanted.times);
+    let number = port::write_grid(&mut expected, &mut wanted.position, record);
+    wanted.border = wanted.times.t_e[record.numbers[1] as usize] as i32;
+    if number != 0 {
+        wanted = old;
+    }
+    let (mut turn, mut bytes) = (old, before);
+    let code = port::send_frame(&f.x, &f.high, &f.low, f.variable as u32, f.slots as u64, &mut bytes, &mut turn);
+    count(counts, if number == 0 { "turns" } else { "turns refused for room" });
+    if code != number || turn != wanted || bytes != expected {
+        return Err(format!("turn at {start}: {number} {wanted:?} wanted, program {code} {turn:?}; bytes {bytes:02x?} for {expected:02x?}"));
+    }
+    Ok(())
 }
 
 /// Energies of a record over a frame, with room to spare, exactly enough, and one number short.
@@ -198,6 +221,12 @@ fn compare_refusals(f: &Frame, rng: &mut Rng, counts: &mut Counts) -> Result<(),
     let code = port::elect_grid(&g.x, &g.high, &g.low, g.previous, g.variable as u32, slots, &mut flag, &mut record);
     if code != wanted || flag != 99 || record != OLD {
         return Err(format!("election: refusal {wanted} wanted, program {code}; outputs {flag} {record:?}"));
+    }
+    let old = Turn { position: 3, border: g.previous, transient: 99, record: OLD, times: OLD_TIMES };
+    let (mut turn, mut bytes) = (old, [0x5a; 8]);
+    let code = port::send_frame(&g.x, &g.high, &g.low, g.variable as u32, slots, &mut bytes, &mut turn);
+    if code != wanted || turn != old || bytes != [0x5a; 8] {
+        return Err(format!("turn: refusal {wanted} wanted, program {code}; {turn:?}"));
     }
     let (mut out, mut n) = (vec![OLD_NUMBER; 8], 99);
     let code = port::estimate_envelopes(&g.x, &g.high, &g.low, slots, &Record { numbers: [0; 9], ..OLD }, &mut out, &mut n);

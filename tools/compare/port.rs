@@ -39,6 +39,11 @@ extern "C" {
         num_0: u64, rel_1: *const u8, rel_1_len: usize, num_1: u64, pointer: u32, energies: *mut f64, energies_len: usize,
         count: *mut u64,
     ) -> u32;
+    fn sbr_send_frame(
+        samples: *const f64, len: usize, high: *const u8, high_len: usize, low: *const u8, low_len: usize, variable: u32,
+        slots: u64, bytes: *mut u8, bytes_len: usize, position: *mut u64, border: *mut i32, transient: *mut u32,
+        numbers: *mut u32, flags: *mut u8, rel_0: *mut u8, rel_1: *mut u8, t_e: *mut u32, t_q: *mut u32, l_a: *mut i32,
+    ) -> u32;
 }
 
 pub fn write_grid(bytes: &mut [u8], position: &mut u64, r: &Record) -> u32 {
@@ -90,6 +95,27 @@ pub fn estimate_envelopes(
             x.as_ptr(), x.len(), high.as_ptr(), high.len(), low.as_ptr(), low.len(), slots, n[0], n[1] as u64, n[2] as u64,
             r.flags.as_ptr(), 5, n[3], n[4], r.rel_0.as_ptr(), 4, n[5] as u64, r.rel_1.as_ptr(), 4, n[6] as u64, n[7],
             energies.as_mut_ptr(), energies.len(), count,
+        )
+    }
+}
+
+/// What a turn hands out.
+#[derive(Clone, Copy, Debug, PartialEq)]
+pub struct Turn {
+    pub position: u64,
+    pub border: i32,
+    pub transient: u32,
+    pub record: Record,
+    pub times: Times,
+}
+
+pub fn send_frame(x: &[f64], high: &[u8], low: &[u8], variable: u32, slots: u64, bytes: &mut [u8], t: &mut Turn) -> u32 {
+    let (r, m) = (&mut t.record, &mut t.times);
+    unsafe {
+        sbr_send_frame(
+            x.as_ptr(), x.len(), high.as_ptr(), high.len(), low.as_ptr(), low.len(), variable, slots, bytes.as_mut_ptr(),
+            bytes.len(), &mut t.position, &mut t.border, &mut t.transient, r.numbers.as_mut_ptr(), r.flags.as_mut_ptr(),
+            r.rel_0.as_mut_ptr(), r.rel_1.as_mut_ptr(), m.t_e.as_mut_ptr(), m.t_q.as_mut_ptr(), &mut m.l_a,
         )
     }
 }
