@@ -1,17 +1,14 @@
--- What the calls of C on bits and time grids come to: what they refuse before their own refusals, and what they are given where they are answered.
+-- What the calls of C for writing and time grids come to: what they refuse before their own refusals, and what they are given where they are answered.
 use mathlib.Core.Bool.{Bool, cond}
 use mathlib.Core.List.{List, []}
 use Prim.Native.Nat.{ℕ}
-use lib.IntN.{ℤ, pos}
 use Rattle.sbr_grid.specs.declared.Refusal.the-variants.{SlotCount, Unwritable}
 use Rattle.sbr_grid.specs.Refusals.{Outcome, refused}
 use Rattle.sbr_grid.specs.Times.{Times, slotCount}
 use Rattle.sbr_time_grid.specs.TimeGrid.{timeGrid}
 use Rattle.sbr_writer.specs.Write.{Wrote, writeGrid}
-use Rattle.sbr_reader.specs.Read.{Frame}
 use Rattle.sbr_form.specs.declared.Handed.{Handed}
 use Rattle.sbr_form.specs.Handed.{gridFrom, formed, formable}
-use Rattle.sbr_form.specs.Given.{recordOut, timeOut}
 
 -- a call for which ok says that all can be formed: 5, then its own refusals; where it has a slot count, 1 before
 abbrev pub forming : {A : Type 0} → Bool → Outcome A → Outcome A
@@ -31,7 +28,3 @@ timeCall n h rel0 rel1 = slotted n (formed h rel0 rel1) (timeGrid n (gridFrom h 
 -- a write: the bytes and the position after it
 abbrev pub writeOut : Wrote → List ℕ × ℕ
 writeOut w = (w .bytes, w .position)
-
--- a frame: the position after it, its last border, its record and its time grid
-abbrev pub frameOut : Frame → ℕ × ℤ × (List ℕ × List ℕ × List ℕ × List ℕ) × (List ℕ × List ℕ × ℤ)
-frameOut f = (f .position, pos (f .border), recordOut (f .grid), timeOut (f .time))

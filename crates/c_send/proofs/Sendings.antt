@@ -10,11 +10,11 @@ use Rattle.sbr_run.specs.declared.Sending.{Sending}
 use Rattle.sbr_run.specs.Run.{Turn, Turned, turn, lastBorder}
 use Rattle.sbr_run.specs.Forms.{sendingOf, bytesLeft}
 use Rattle.sbr_run.proofs.OneFrame.{calls}
-use Rattle.sbr_form.specs.Given.{codeOf, timeOut}
-use Rattle.sbr_form.specs.Form.{Few}
-use Rattle.sbr_form.proofs.Answers.{has-answered, has-refused, Out, handed-out, TimesAt, RecordAt, shown, shown-record}
+use Rattle.sbr_give.specs.Given.{codeOf, timeOut}
+use Rattle.sbr_give.specs.Given.{Few}
+use Rattle.sbr_give.proofs.Answers.{has-answered, has-refused, Out, handed-out, TimesAt, RecordAt, shown, shown-record}
 use Rattle.c_send.specs.Turns.{sendOut}
-use Rattle.c_frame.proofs.Elections.{elected-few}
+use Rattle.c_elect.proofs.Given.{elected-few}
 
 -- what a program gives of a turn and the bytes that it leaves
 abbrev given : List ℕ × Sending → List ℕ × ℕ × ℤ × ℕ × (List ℕ × List ℕ × List ℕ × List ℕ) × (List ℕ × List ℕ × ℤ)

@@ -1,3 +1,2 @@
 pub mod BuildLaws
 pub mod BuildLists
-pub mod BuildGrids

@@ -1,11 +1,14 @@
 // The calls of the C firmware: plain numbers and ranges of bytes, in and out. Each answers 0, or the number of a refusal, and a
-// refused call leaves everything that was lent as it was. What they do stands in c_bits, c_frame and c_send.
+// refused call leaves everything that was lent as it was. What they do stands in c_bits, c_read, c_elect,
+// c_energies and c_send.
 ghost use lib.ListN.{length};
 ghost use Rattle.sbr_reader.specs.Read.{readGrid};
 ghost use Rattle.sbr_form.specs.Handed.{handed};
-ghost use Rattle.sbr_form.specs.Given.{Gives, timeOut};
-ghost use Rattle.c_bits.specs.Calls.{writeCall, timeCall, writeOut, frameOut};
-ghost use Rattle.c_frame.specs.Frames.{electCall, energyCall, electionOut, energyOut};
+ghost use Rattle.sbr_give.specs.Given.{Gives, timeOut};
+ghost use Rattle.c_bits.specs.Calls.{writeCall, timeCall, writeOut};
+ghost use Rattle.c_read.specs.Frames.{frameOut};
+ghost use Rattle.c_elect.specs.Elections.{electCall, electionOut};
+ghost use Rattle.c_energies.specs.Energies.{energyCall, energyOut};
 ghost use Rattle.c_send.specs.Turns.{sendCall, sendOut};
 
 // sbr_grid() of a record is written at a bit position, which is moved past it.
@@ -97,7 +100,7 @@ pub extern "C" fn sbr_read_grid(
 ) -> u32
     ensures { λ r. ⌜ Gives (readGrid (now (bytes .entry)) (now (position .entry)) «num_time_slots» (now (border .entry))) frameOut (now (position .entry), now (border .entry), (now (numbers .entry), now («freq_res» .entry), now («rel_bord_0» .entry), now («rel_bord_1» .entry)), (now («t_e» .entry), now («t_q» .entry), now («l_a» .entry))) r (now (position .exit), now (border .exit), (now (numbers .exit), now («freq_res» .exit), now («rel_bord_0» .exit), now («rel_bord_1» .exit)), (now («t_e» .exit), now («t_q» .exit), now («l_a» .exit))) ⌝ }
 {
-    c_bits::read_grid(
+    c_read::read_grid(
         bytes,
         num_time_slots,
         position,
@@ -129,7 +132,7 @@ pub extern "C" fn sbr_elect_grid(
 ) -> u32
     ensures { λ r. ⌜ Gives (electCall «num_time_slots» (now (high .entry)) (now (low .entry)) (now (samples .entry)) «previous_border» «variable_borders») electionOut (now (transient .entry), (now (numbers .entry), now («freq_res» .entry), now («rel_bord_0» .entry), now («rel_bord_1» .entry))) r (now (transient .exit), (now (numbers .exit), now («freq_res» .exit), now («rel_bord_0» .exit), now («rel_bord_1» .exit))) ⌝ }
 {
-    c_frame::elect_grid(
+    c_elect::elect_grid(
         samples,
         high,
         low,
@@ -167,7 +170,7 @@ pub extern "C" fn sbr_estimate_envelopes(
 ) -> u32
     ensures { λ r. ⌜ Gives (energyCall «num_time_slots» (now (high .entry)) (now (low .entry)) (now (samples .entry)) (handed «frame_class» «num_env» «num_noise» «var_bord_0» «var_bord_1» «num_rel_0» «num_rel_1» pointer) (now («freq_res» .entry)) (now («rel_bord_0» .entry)) (now («rel_bord_1» .entry)) (length (now (out .entry)))) (energyOut (now (out .entry))) (now (out .entry), now (count .entry)) r (now (out .exit), now (count .exit)) ⌝ }
 {
-    c_frame::estimate_envelopes(
+    c_energies::estimate_envelopes(
         samples,
         high,
         low,

@@ -8,10 +8,11 @@ use Rattle.sbr_grid.specs.Grid.{Grid}
 use Rattle.sbr_grid.specs.Times.{Times, slotCount}
 use Rattle.sbr_time_grid.specs.TimeGrid.{timeGrid, countsFit, bordersFit, noiseFits, absBordLead, absBordTrail, nRelLead, nRelTrail, relBordLead, sum, listFrom, tE, rises, middleBorder, lA, tQ}
 use Rattle.sbr_borders.specs.declared.WantedBorder.{WantedBorder}
-use Rattle.sbr_build.specs.Build.{fixfixGrid, varvarGrid, shares, varfixPlain, segmentsBy, lateAttackVarvar, doubleAttackGrid, fixvarSegs, varfixSegs, fixvarGrid, varfixGrid, variableGrid}
+use Rattle.sbr_build.specs.Build.{fixfixGrid, varvarGrid, shares, varfixPlain}
+use Rattle.sbr_attack.specs.Attack.{segmentsBy, lateAttackVarvar, doubleAttackGrid, fixvarSegs, varfixSegs, fixvarGrid, varfixGrid, variableGrid}
 use Rattle.sbr_search.specs.Search.{tryEnds, tryShifts, tryFrom, Best, search, multiOnsetGrid}
 use Rattle.sbr_borders.specs.Borders.{places, prices, nextShifts, risesFrom, lastOr, stepsUp, stepsDown, allEven, reaches, fit}
-use Rattle.sbr_plan.specs.Elect.{attackGrid, plainGrid, chosenGrid}
+use Rattle.sbr_chosen.specs.Elect.{attackGrid, plainGrid, chosenGrid}
 
 unfoldable pub timesOf : ℕ → Grid → Outcome Times
 unfolding timeGrid slotCount countsFit bordersFit noiseFits absBordLead absBordTrail nRelLead nRelTrail relBordLead sum listFrom tE rises middleBorder lA tQ

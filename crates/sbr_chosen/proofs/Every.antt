@@ -16,7 +16,7 @@ use Rattle.sbr_grid.specs.Times.{Times, slotCount}
 use Rattle.sbr_time_grid.specs.TimeGrid.{timeGrid}
 use Rattle.sbr_search.specs.Plans.{OnsetsFrom, Case}
 use Rattle.sbr_time_grid.proofs.Laws.{slot-range}
-use Rattle.sbr_plan.specs.Elect.{chosenGrid}
+use Rattle.sbr_chosen.specs.Elect.{chosenGrid}
 use Rattle.sbr_chosen.specs.Chosen.{Sound, ChosenIsSound}
 use Rattle.sbr_chosen.proofs.Computed.{timesOf, chosenOf}
 

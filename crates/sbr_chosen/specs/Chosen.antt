@@ -10,7 +10,7 @@ use Rattle.sbr_grid.specs.Grid.{Grid, numEnv}
 use Rattle.sbr_grid.specs.Times.{Times}
 use Rattle.sbr_time_grid.specs.TimeGrid.{timeGrid}
 use Rattle.sbr_search.specs.Plans.{Case}
-use Rattle.sbr_plan.specs.Elect.{chosenGrid}
+use Rattle.sbr_chosen.specs.Elect.{chosenGrid}
 
 -- a grid with a time grid, from the lead to 0 to 3 slots past the frame, whose mark is not the envelope count
 pub record Sound (n lead : ℕ) (g : Grid) : Type 0 where

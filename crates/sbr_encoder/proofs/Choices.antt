@@ -27,7 +27,7 @@ use Rattle.sbr_onsets.proofs.OnsetLead.{frame-case}
 use Rattle.sbr_chosen.proofs.Every.{chosen-is-sound}
 use Rattle.sbr_search.specs.declared.Onsets.{Onsets}
 use Rattle.sbr_search.specs.Forms.{onsetList}
-use Rattle.sbr_plan.specs.Elect.{chosenGrid}
+use Rattle.sbr_chosen.specs.Elect.{chosenGrid}
 use Rattle.sbr_plan.proofs.PlanCases.{chosen-none, chosen-some}
 use Rattle.sbr_encoder.specs.declared.Election.{Election}
 use Rattle.sbr_encoder.specs.Election.{Elected, hasOnset, resolved, electedOf, electionOf}

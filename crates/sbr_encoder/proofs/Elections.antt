@@ -20,7 +20,7 @@ use Rattle.sbr_qmf.specs.Qmf.{Samples as SampleAt, columns}
 use Rattle.sbr_energy.specs.Energy.{slotEnergy}
 use Rattle.sbr_parse.proofs.Inverse.{reads-back}
 use Rattle.sbr_search.specs.Plans.{Case}
-use Rattle.sbr_plan.specs.Elect.{chosenGrid}
+use Rattle.sbr_chosen.specs.Elect.{chosenGrid}
 use Rattle.sbr_chosen.specs.Chosen.{Sound}
 use Rattle.sbr_chosen.proofs.Every.{chosen-is-sound}
 use Rattle.sbr_bands.specs.Tables.{Span, spans, spansFrom, tablesFit, entry, top}

@@ -12,7 +12,7 @@ use Rattle.sbr_grid.proofs.Laws.{class-of-code}
 use Rattle.sbr_writer.specs.Write.{every, writable, fieldsFit, classFits}
 use Rattle.sbr_parse.specs.Inverse.{cleared}
 use Rattle.sbr_search.specs.Plans.{Case}
-use Rattle.sbr_plan.specs.Elect.{chosenGrid}
+use Rattle.sbr_chosen.specs.Elect.{chosenGrid}
 use Rattle.sbr_chosen.proofs.Computed.{chosenOf}
 use Rattle.sbr_chosen.proofs.Every.{is-true, allCases, at-case}
 use Rattle.sbr_encoder.proofs.Resolution.{Kept}

@@ -13,7 +13,7 @@ use Rattle.sbr_grid.specs.Times.{Times, slotCount}
 use Rattle.sbr_time_grid.specs.TimeGrid.{timeGrid}
 use Rattle.sbr_qmf.specs.Qmf.{Samples as SampleAt, columns}
 use Rattle.sbr_energy.specs.Energy.{slotEnergy}
-use Rattle.sbr_plan.specs.Elect.{chosenGrid, fallbackGrid}
+use Rattle.sbr_chosen.specs.Elect.{chosenGrid, fallbackGrid}
 use Rattle.sbr_bands.specs.Tables.{entry, top, tablesFit, spans}
 use Rattle.sbr_onsets.specs.Onsets.{halvesAlike, onsetsOf, leadOf}
 use Rattle.sbr_envelopes.specs.Envelopes.{samplesNeeded}

@@ -14,7 +14,7 @@ ghost use Rattle.sbr_time_grid.specs.TimeGrid.{timeGrid};
 ghost use Rattle.sbr_qmf.specs.Qmf.{columns};
 ghost use lib.Ieee.{nan};
 ghost use Rattle.sbr_energy.specs.Energy.{slotEnergies};
-ghost use Rattle.sbr_plan.specs.Elect.{chosenGrid};
+ghost use Rattle.sbr_chosen.specs.Elect.{chosenGrid};
 ghost use Rattle.sbr_bands.specs.Tables.{entry, top};
 ghost use Rattle.sbr_onsets.specs.Onsets.{halvesAlike, onsetsOf, leadOf};
 ghost use Rattle.sbr_resolution.specs.Resolution.{Ready};

@@ -12,7 +12,7 @@ use lib.Seq.{set-at, set-set, getD-at}
 use lib.Ieee as Ieee
 use lib.Ieee.{Float, binary64}
 use Rattle.sbr_qmf.specs.Qmf.{Samples}
-use Rattle.sbr_energy.specs.Floats.{total, zero64}
+use Rattle.sbr_floats.specs.Floats.{total, zero64}
 use Rattle.sbr_energy.specs.Energy.{bandSum, slotEnergy, listOf, slotEnergies}
 
 -- nothing is summed yet

@@ -5,7 +5,7 @@ use lib.ListN.{replicate}
 use lib.Ieee as Ieee
 use lib.Ieee.{Float, binary64}
 use Rattle.sbr_qmf.specs.Qmf.{Samples, normSqr}
-use Rattle.sbr_energy.specs.Floats.{zero64, total, meanOf}
+use Rattle.sbr_floats.specs.Floats.{zero64, total, meanOf}
 
 -- the bands kl up to, not including, kh of column c, lowest first
 abbrev pub bandSum : Samples → ℕ → ℕ → ℕ → Float

@@ -1,19 +1,18 @@
 -- Laws of the record that is formed of what C hands in.
 use mathlib.Core.Path.{_≡_, refl, sym}
 use mathlib.Core.Bool.{true, false, and-eq-true-iff}
-use mathlib.Core.List.{List, [], _∷_}
-use Prim.Native.Nat.{ℕ, zero, suc, _≤_, _<_}
+use mathlib.Core.List.{List}
+use Prim.Native.Nat.{ℕ, _≤_, _<_}
 use native.Mathlib.Omega.{arith}
 use borrow.Author.Tests.{leb-true, le-leb}
 use lib.Dec.{leb}
-use lib.ListN.{length, getD, drop, List·getD-eq-default}
-use lib.Seq.{drop-nil}
+use lib.ListN.{length, getD, List·getD-eq-default}
 use Rattle.sbr_grid.specs.Grid.{first, empty}
 use Rattle.sbr_grid.proofs.Laws.{length-first, getD-first}
 use Rattle.sbr_form.specs.declared.Handed.{Handed}
 use Rattle.sbr_form.specs.declared.Formed.{Formed}
 use Rattle.sbr_form.specs.Handed.{formed}
-use Rattle.sbr_form.specs.Form.{Bytes}
+use Rattle.sbr_form.specs.Handed.{Bytes}
 
 -- past the count there is nothing
 pub first-past : {A : Type 0} (d : A) (n i : ℕ) (xs : List A) → n ≤ i → d ≡ getD (first d n xs) i d
@@ -22,22 +21,6 @@ first-past d n i xs h = let k : length (first d n xs) ≤ i = rw (length-first d
 -- nor past the list
 pub first-short : {A : Type 0} (d : A) (n i : ℕ) (xs : List A) → i < n → length xs ≤ i → d ≡ getD (first d n xs) i d
 first-short d n i xs h k = rw (getD-first d n i xs h) (sym (List·getD-eq-default xs d k))
-
--- n places of a list from i on, one by one
-abbrev pub places : {A : Type 0} → A → ℕ → ℕ → List A → List A
-places d i zero xs = []
-places d i (suc n) xs = getD xs i d ∷ places d (suc i) n xs
-
--- the next place, and the rest
-place : {A : Type 0} (d : A) (n i : ℕ) (xs : List A) → getD xs i d ∷ first d n (drop (suc i) xs) ≡ first d (suc n) (drop i xs)
-place d n i [] = rw (drop-nil i)
-place d n zero (x ∷ xs) = refl
-place d n (suc i) (x ∷ xs) = place d n i xs
-
--- they are the first of what is left
-pub places-first : {A : Type 0} (d : A) (n i : ℕ) (xs : List A) → places d i n xs ≡ first d n (drop i xs)
-places-first d zero i xs = refl
-places-first d (suc n) i xs = rw (places-first d n (suc i) xs) (place d n i xs)
 
 -- all that the test of what was handed in asks for, but that the trailing list has its count
 pub record Passed (h : Handed) (rel0 : List ℕ) : Type 0 where

@@ -1,3 +1,2 @@
 pub mod Laws
 pub mod Same
-pub mod Answers

@@ -2,7 +2,7 @@
 -- above 3, a flag above 1, a range shorter than its count, a border or a pointer that no byte holds.
 use mathlib.Core.Bool.{Bool, false, cond, _&&_}
 use mathlib.Core.List.{List, map}
-use Prim.Native.Nat.{ℕ}
+use Prim.Native.Nat.{ℕ, _≤_}
 use lib.Dec.{leb, eqb}
 use lib.ListN.{length}
 use Rattle.sbr_grid.specs.Grid.{classOf, first, Grid, made, recordOf, empty}
@@ -46,3 +46,9 @@ formable h flags rel0 rel1 = formed h rel0 rel1 && flagged (h .«num_env») flag
 -- what a program forms: the record, or none and the empty record
 abbrev pub formedOf : Bool → Grid → Formed
 formedOf ok g = record { «is_formed» = ok; grid = cond ok (recordOf g) empty }
+
+-- border bytes and pointer fit a byte
+pub record Bytes (h : Handed) : Type 0 where
+  pub bord0 : h .«var_bord_0» ≤ 255
+  pub bord1 : h .«var_bord_1» ≤ 255
+  pub pointer : h .pointer ≤ 255

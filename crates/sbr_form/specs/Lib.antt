@@ -1,3 +1,1 @@
 pub mod Handed
-pub mod Given
-pub mod Form

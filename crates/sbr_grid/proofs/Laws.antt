@@ -4,7 +4,8 @@ use mathlib.Core.Bool.{Bool, true, false}
 use mathlib.Core.List.{List, [], _∷_}
 use Prim.Native.Nat.{ℕ, zero, suc, _≤_, _<_}
 use native.Mathlib.Omega.{arith}
-use lib.ListN.{length, getD, take}
+use lib.ListN.{length, getD, take, drop}
+use lib.Seq.{drop-nil}
 use Rattle.sbr_grid.specs.declared.FrameClass.{FrameClass}
 use Rattle.sbr_grid.specs.declared.FrameClass.the-variants.{FixFix, FixVar, VarFix, VarVar}
 use Rattle.sbr_grid.specs.declared.SbrGrid.{SbrGrid}
@@ -45,6 +46,22 @@ getD-first d (suc n) zero [] h = refl
 getD-first d (suc n) (suc i) [] h = getD-first d n i [] (omega arith)
 getD-first d (suc n) zero (x ∷ xs) h = refl
 getD-first d (suc n) (suc i) (x ∷ xs) h = getD-first d n i xs (omega arith)
+
+-- n places of a list from i on, one by one
+abbrev pub places : {A : Type 0} → A → ℕ → ℕ → List A → List A
+places d i zero xs = []
+places d i (suc n) xs = getD xs i d ∷ places d (suc i) n xs
+
+-- the next place, and the rest
+place : {A : Type 0} (d : A) (n i : ℕ) (xs : List A) → getD xs i d ∷ first d n (drop (suc i) xs) ≡ first d (suc n) (drop i xs)
+place d n i [] = rw (drop-nil i)
+place d n zero (x ∷ xs) = refl
+place d n (suc i) (x ∷ xs) = place d n i xs
+
+-- they are the first of what is left
+pub places-first : {A : Type 0} (d : A) (n i : ℕ) (xs : List A) → places d i n xs ≡ first d n (drop i xs)
+places-first d zero i xs = refl
+places-first d (suc n) i xs = rw (places-first d n (suc i) xs) (place d n i xs)
 
 -- cutting to the length what was padded gives the list
 pub first-first : {A : Type 0} (d : A) (m : ℕ) (xs : List A) → length xs ≤ m → first d (length xs) (first d m xs) ≡ xs

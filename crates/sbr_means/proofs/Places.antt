@@ -8,7 +8,7 @@ use lib.ListN.{length, getD, set, take, drop, length-append, length-drop}
 use lib.Seq.{paste, paste-suc, take-all}
 use lib.Ieee.{Float}
 use Rattle.sbr_qmf.specs.Qmf.{Samples}
-use Rattle.sbr_energy.specs.Floats.{zero64, meanOf}
+use Rattle.sbr_floats.specs.Floats.{zero64, meanOf}
 use Rattle.sbr_energy.specs.Energy.{bandTotal}
 use Rattle.sbr_bands.specs.Tables.{entry, Span, spansFrom}
 use Rattle.sbr_means.specs.Means.{meanIn}

@@ -5,7 +5,7 @@ use native.Mathlib.Omega.{arith}
 use lib.Ieee as Ieee
 use lib.Ieee.{Float, binary64}
 use Rattle.sbr_qmf.specs.Qmf.{Samples}
-use Rattle.sbr_energy.specs.Floats.{zero64, total}
+use Rattle.sbr_floats.specs.Floats.{zero64, total}
 use Rattle.sbr_energy.specs.Energy.{bandSum, bandTotal}
 use Rattle.sbr_energy.proofs.Laws.{total-none, total-more}
 

@@ -91,11 +91,11 @@ pub fn band_means(
         let count = (2 * (t1 - t0) * w) as u32;
         if j + 1 < k && table[i + j + 2] as usize == kl + w + w {
             let sums = pair_of(x, kl, w, t0, t1);
-            out[at + j] = sbr_energy::mean(sums.a, count);
-            out[at + j + 1] = sbr_energy::mean(sums.b, count);
+            out[at + j] = sbr_floats::mean(sums.a, count);
+            out[at + j + 1] = sbr_floats::mean(sums.b, count);
             j += 2;
         } else {
-            out[at + j] = sbr_energy::mean(band_sum(x, kl, w, t0, t1), count);
+            out[at + j] = sbr_floats::mean(band_sum(x, kl, w, t0, t1), count);
             j += 1;
         }
     }

@@ -8,7 +8,7 @@ use borrow.Author.Tests.{lt-ltb, le-ltb}
 use lib.ListN.{getD}
 use lib.Ieee.{Float, nan}
 use Rattle.sbr_qmf.specs.Qmf.{Samples}
-use Rattle.sbr_energy.specs.Floats.{total}
+use Rattle.sbr_floats.specs.Floats.{total}
 use Rattle.sbr_energy.specs.Energy.{slotEnergy, slotEnergies}
 use Rattle.sbr_energy.proofs.Laws.{energies-at}
 use Rattle.sbr_onsets.specs.Onsets.{peakOf, isAttack, onsetsFrom, detectOnsets, halvesAlike}

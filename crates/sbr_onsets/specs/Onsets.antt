@@ -7,7 +7,7 @@ use lib.Dec.{ltb}
 use lib.IntN.{ℤ, pos, negsuc, _-ℤ_}
 use lib.Ieee as Ieee
 use lib.Ieee.{Float, binary64, ofBits}
-use Rattle.sbr_energy.specs.Floats.{zero64, floor64, maxOf, minOf, total, meanOf}
+use Rattle.sbr_floats.specs.Floats.{zero64, floor64, maxOf, minOf, total, meanOf}
 
 -- 8.0, 1e-9, 0.1, 1.0, 0.5, 2.0
 abbrev pub eight : Float

@@ -6,7 +6,7 @@ ghost use mathlib.Core.Bool.{true};
 ghost use Prim.Native.Nat.{ℕ, _+_, _-_, _≤_, _<_};
 ghost use lib.ListN.{getD};
 ghost use lib.Ieee.{nan};
-ghost use Rattle.sbr_energy.specs.Floats.{total};
+ghost use Rattle.sbr_floats.specs.Floats.{total};
 ghost use Rattle.sbr_search.specs.Forms.{onsetList};
 ghost use Rattle.sbr_grid.specs.Times.{slotCount};
 ghost use Rattle.sbr_onsets.specs.Onsets.{peakOf, isAttack, detectOnsets, halvesAlike, onsetsOf, leadOf};
@@ -18,7 +18,7 @@ fn peak_of(e: &[f64; 24], n: usize) -> f64
 {
     let mut peak = 0.0;
     for i in 0..n {
-        peak = sbr_energy::raised(peak, e[i]);
+        peak = sbr_floats::raised(peak, e[i]);
     }
     peak
 }
@@ -40,9 +40,9 @@ fn is_attack(e: &[f64; 24], peak: f64, s: usize) -> bool
     requires { ⌜ (4 ≤ s) × (s < 24) ⌝ }
     ensures { λ r. ⌜ r ≡ isAttack (λ i. getD (now (e .entry)) i nan) peak s ⌝ }
 {
-    let before_4 = sbr_energy::mean(sum_of(e, s - 4, 4), 4);
-    let before_2 = sbr_energy::mean(sum_of(e, s - 2, 2), 2);
-    let before = sbr_energy::min(before_4, before_2);
+    let before_4 = sbr_floats::mean(sum_of(e, s - 4, 4), 4);
+    let before_2 = sbr_floats::mean(sum_of(e, s - 2, 2), 2);
+    let before = sbr_floats::min(before_4, before_2);
     let now = e[s];
     now > 8.0 * before + 1e-9 && now > 0.1 * peak && now > 64.0
 }

@@ -12,14 +12,14 @@ use Rattle.sbr_grid.specs.declared.SbrGrid.{SbrGrid}
 use Rattle.sbr_grid.specs.Grid.{first, Grid, recordOf}
 use Rattle.sbr_grid.proofs.Laws.{length-first}
 use Rattle.sbr_search.specs.declared.Onsets.{Onsets}
-use Rattle.sbr_build.specs.declared.LateAttack.the-variants.{Late, NotLate}
-use Rattle.sbr_build.specs.declared.DoubleAttack.the-variants.{Double, NotDouble}
+use Rattle.sbr_attack.specs.declared.LateAttack.the-variants.{Late, NotLate}
+use Rattle.sbr_attack.specs.declared.DoubleAttack.the-variants.{Double, NotDouble}
 use Rattle.sbr_search.specs.declared.MultiOnset.the-variants.{Planned, NoPlan}
-use Rattle.sbr_build.specs.Build.{doubleAttackGrid}
+use Rattle.sbr_attack.specs.Attack.{doubleAttackGrid}
 use Rattle.sbr_search.specs.Search.{multiOnsetGrid}
-use Rattle.sbr_build.specs.Build.{lateOf, doubleOf}
+use Rattle.sbr_attack.specs.Attack.{lateOf, doubleOf}
 use Rattle.sbr_search.specs.Forms.{onsetList, multiOf}
-use Rattle.sbr_plan.specs.Elect.{solver, doubleFirst, attackGrid, plainGrid, chosenGrid}
+use Rattle.sbr_chosen.specs.Elect.{solver, doubleFirst, attackGrid, plainGrid, chosenGrid}
 
 -- ---- the search and the double grid of an array
 

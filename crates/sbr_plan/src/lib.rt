@@ -1,6 +1,6 @@
 // The grid of a frame whose onsets are known: whole numbers only. From src/sbr_encoder.rs.
-use sbr_build::DoubleAttack;
-use sbr_build::LateAttack;
+use sbr_attack::DoubleAttack;
+use sbr_attack::LateAttack;
 use sbr_grid::SbrGrid;
 use sbr_search::MultiOnset;
 use sbr_search::Onsets;
@@ -10,7 +10,7 @@ ghost use lib.ListN.{getD};
 ghost use Rattle.sbr_grid.specs.Grid.{recordOf};
 ghost use Rattle.sbr_search.specs.Plans.{Case};
 ghost use Rattle.sbr_search.specs.Forms.{onsetList};
-ghost use Rattle.sbr_plan.specs.Elect.{attackGrid, plainGrid, chosenGrid};
+ghost use Rattle.sbr_chosen.specs.Elect.{attackGrid, plainGrid, chosenGrid};
 
 // Variable borders: the search for three onsets, then the double grid, the search for two onsets, the late grid, one onset's grid.
 fn attack_grid(onsets: Onsets, lead: u32, nts: u32) -> SbrGrid
@@ -26,7 +26,7 @@ fn attack_grid(onsets: Onsets, lead: u32, nts: u32) -> SbrGrid
         }
     }
     if 2 <= onsets.count {
-        let double = sbr_build::double_attack_grid(s, onsets.slot[1], lead, nts);
+        let double = sbr_attack::double_attack_grid(s, onsets.slot[1], lead, nts);
         let answer = double.answer;
         if let DoubleAttack::Double = answer {
             return double.grid;
@@ -39,12 +39,12 @@ fn attack_grid(onsets: Onsets, lead: u32, nts: u32) -> SbrGrid
             return multi.grid;
         }
     }
-    let late = sbr_build::late_attack_varvar(s, lead, nts);
+    let late = sbr_attack::late_attack_varvar(s, lead, nts);
     let answer = late.answer;
     if let LateAttack::Late = answer {
         return late.grid;
     }
-    sbr_build::variable_grid(s, lead, nts)
+    sbr_attack::variable_grid(s, lead, nts)
 }
 
 // No variable borders but the lead.

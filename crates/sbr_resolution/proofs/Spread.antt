@@ -10,8 +10,8 @@ use lib.ListN.{length, getD, take}
 use lib.Seq.{take-suc, take-at}
 use lib.Ieee as Ieee
 use lib.Ieee.{Float, nan, inf, binary64, ofBits}
-use Rattle.sbr_energy.specs.Floats.{zero64, maxOf, minOf, spreadIsHigh}
-use Rattle.sbr_energy.specs.Floats.{floor64}
+use Rattle.sbr_floats.specs.Floats.{zero64, maxOf, minOf, spreadIsHigh}
+use Rattle.sbr_floats.specs.Floats.{floor64}
 use Rattle.sbr_resolution.specs.Resolution.{largestFrom, smallestFrom, isSpread}
 
 module _ (op : Float → Float → Float) (F : Float → List Float → Float) (none : (m : Float) → F m [] ≡ m)

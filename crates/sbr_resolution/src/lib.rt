@@ -35,11 +35,11 @@ fn is_spread(means: &[f64], k: usize) -> bool
     let mut smallest = 1.0 / 0.0;
     for j in 0..k {
         let m = means[j];
-        largest = sbr_energy::raised(largest, m);
-        smallest = sbr_energy::lowered(smallest, m);
+        largest = sbr_floats::raised(largest, m);
+        smallest = sbr_floats::lowered(smallest, m);
     }
     if largest > 64.0 {
-        return sbr_energy::spread_is_high(largest / sbr_energy::max(smallest, 64.0));
+        return sbr_floats::spread_is_high(largest / sbr_floats::max(smallest, 64.0));
     }
     false
 }

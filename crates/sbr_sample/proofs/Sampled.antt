@@ -14,12 +14,13 @@ use Rattle.sbr_writer.specs.Write.{every, classFits, fieldsFit, writeGrid}
 use Rattle.sbr_parse.specs.Syntax.{_>>=_, flags, field, lengths, counted, fixFix, fixVar, varFix, sbrGrid}
 use Rattle.sbr_reader.specs.Read.{meets, readGrid}
 use Rattle.sbr_qmf.specs.Qmf.{columns}
-use Rattle.sbr_energy.specs.Floats.{total, spreadIsHigh}
+use Rattle.sbr_floats.specs.Floats.{total, spreadIsHigh}
 use Rattle.sbr_onsets.specs.Onsets.{peakOf, isAttack, onsetsFrom, detectOnsets, halvesAlike}
 use Rattle.sbr_bands.specs.Tables.{among, drawn, highFits, lowFits, spansFrom}
 use Rattle.sbr_resolution.specs.Resolution.{inside, largestFrom, smallestFrom, isSpread, someSpread, electFreqRes}
-use Rattle.sbr_build.specs.Build.{fixfixGrid, lateAttackVarvar, fixvarSegs, varfixSegs, fixvarGrid, varfixGrid, variableGrid, segmentsBy}
-use Rattle.sbr_plan.specs.Elect.{attackGrid, plainGrid, chosenGrid}
+use Rattle.sbr_build.specs.Build.{fixfixGrid}
+use Rattle.sbr_attack.specs.Attack.{lateAttackVarvar, fixvarSegs, varfixSegs, fixvarGrid, varfixGrid, variableGrid, segmentsBy}
+use Rattle.sbr_chosen.specs.Elect.{attackGrid, plainGrid, chosenGrid}
 use Rattle.sbr_encoder.specs.Election.{elect}
 use Rattle.sbr_run.specs.Run.{State, turn, HandsIn}
 use Rattle.sbr_sample.specs.Sample.{terms, turnAt, start, afterOne, afterTwo, Sample}

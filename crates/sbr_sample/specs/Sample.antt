@@ -7,7 +7,7 @@ use lib.IntN.{pos, negsuc}
 use lib.ListN.{replicate}
 use lib.Ieee.{Float, binary64, ofBits}
 use Rattle.sbr_grid.specs.declared.FrameClass.the-variants.{FixFix, FixVar, VarFix}
-use Rattle.sbr_energy.specs.Floats.{zero64}
+use Rattle.sbr_floats.specs.Floats.{zero64}
 use Rattle.sbr_run.specs.Run.{Turn, Terms, State, after, sent, Run, Frame, frameOf}
 use Rattle.sbr_run.specs.Readings.{Reading, listened, read, Readings}
 

@@ -4,7 +4,7 @@ use mathlib.Core.Path.{ap, _∙_}
 use Rattle.sbr_grid.specs.declared.Refusal.the-variants.{Unwritable}
 use Rattle.sbr_writer.specs.Write.{writeGrid}
 use Rattle.sbr_form.proofs.Same.{write-same}
-use Rattle.sbr_form.proofs.Answers.{gives-refused, gives-answered}
+use Rattle.sbr_give.proofs.Answers.{gives-refused, gives-answered}
 use Rattle.c_bits.proofs.Laws.{not-formed, is-formed}
 use Rattle.c_bits.proofs.Answers.{has-written, not-written}
 use Rattle.c_bits.proofs.write_grid.Statement.{statement}

@@ -4,7 +4,7 @@ use native.Mathlib.Omega.{arith}
 use borrow.Author.Needs.{needs}
 use Rattle.sbr_grid.proofs.Laws.{length-first}
 use Rattle.sbr_build.specs.Build.{lengths}
-use Rattle.sbr_build.proofs.BuildGrids.{plain-from}
+use Rattle.sbr_build.proofs.BuildLists.{plain-from}
 use Rattle.sbr_build.proofs.varfix_plain.Statement.{statement}
 use Rattle.sbr_build.proofs.varfix_plain.Tie as tie
 

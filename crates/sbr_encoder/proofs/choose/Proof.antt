@@ -11,7 +11,7 @@ use Rattle.sbr_grid.specs.Grid.{recordOf}
 use Rattle.sbr_onsets.specs.Onsets.{halvesAlike, leadOf}
 use Rattle.sbr_search.specs.Plans.{Case}
 use Rattle.sbr_search.specs.Forms.{onsetList}
-use Rattle.sbr_plan.specs.Elect.{chosenGrid}
+use Rattle.sbr_chosen.specs.Elect.{chosenGrid}
 use Rattle.sbr_time_grid.proofs.Laws.{slot-range}
 use Rattle.sbr_onsets.proofs.OnsetLead.{frame-case}
 use Rattle.sbr_encoder.proofs.Choices.{even-same, some-onset}

@@ -2,7 +2,7 @@ use Prim.Native.Nat.{ℕ, _+_, _-_, _≤_}
 use mathlib.Core.Path.{_≡_}
 use lib.Ieee.{Float}
 use Rattle.sbr_qmf.specs.Qmf.{columns, normSqr}
-use Rattle.sbr_energy.specs.Floats.{total}
+use Rattle.sbr_floats.specs.Floats.{total}
 use Rattle.sbr_energy.proofs.Laws.{total-none, total-more}
 use borrow.Author.Needs.{needs}
 use native.Mathlib.Omega.{arith}

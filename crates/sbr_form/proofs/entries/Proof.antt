@@ -1,7 +1,7 @@
 -- `sbr_form::entries` meets its contract.
 use borrow.Author.Needs.{needs}
 use Rattle.sbr_grid.specs.Grid.{first}
-use Rattle.sbr_form.proofs.Laws.{places-first}
+use Rattle.sbr_grid.proofs.Laws.{places-first}
 use Rattle.sbr_form.proofs.entries.Statement.{statement}
 use Rattle.sbr_form.proofs.entries.Tie as tie
 

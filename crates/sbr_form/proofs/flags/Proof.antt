@@ -4,7 +4,7 @@ use mathlib.Core.Bool.{false}
 use mathlib.Core.List.{map}
 use lib.Dec.{eqb}
 use Rattle.sbr_grid.specs.Grid.{first}
-use Rattle.sbr_form.proofs.Laws.{places-first}
+use Rattle.sbr_grid.proofs.Laws.{places-first}
 use Rattle.sbr_form.proofs.flags.Statement.{statement}
 use Rattle.sbr_form.proofs.flags.Tie as tie
 

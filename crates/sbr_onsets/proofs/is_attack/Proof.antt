@@ -4,7 +4,7 @@ use mathlib.Core.Logic.{⊎-elim}
 use borrow.Author.Needs.{needs}
 use lib.Ieee as Ieee
 use lib.Ieee.{Float, binary64}
-use Rattle.sbr_energy.specs.Floats.{floor64}
+use Rattle.sbr_floats.specs.Floats.{floor64}
 use Rattle.sbr_onsets.specs.Onsets.{eight, nano, tenth, isAttack}
 use Rattle.sbr_onsets.proofs.OnsetLaws.{energyAt, attack-is}
 use Rattle.sbr_onsets.proofs.is_attack.Statement.{statement}

@@ -3,7 +3,7 @@ use Prim.Native.Nat.{_+_, _≤_, _-_}
 use native.Mathlib.Omega.{arith}
 use lib.ListN.{getD}
 use lib.Ieee.{nan}
-use Rattle.sbr_energy.specs.Floats.{total}
+use Rattle.sbr_floats.specs.Floats.{total}
 use Rattle.sbr_energy.proofs.Laws.{total-none, total-more}
 use Rattle.sbr_onsets.proofs.sum_of.Statement.{statement}
 use Rattle.sbr_onsets.proofs.sum_of.Tie as tie

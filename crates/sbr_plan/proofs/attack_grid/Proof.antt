@@ -6,10 +6,10 @@ use Prim.Native.Nat.{_≤_, _<_}
 use native.Mathlib.Omega.{arith}
 use borrow.Author.Needs.{needs}
 use lib.ListN.{getD}
-use Rattle.sbr_build.specs.Build.{lateAttackVarvar, doubleAttackGrid}
+use Rattle.sbr_attack.specs.Attack.{lateAttackVarvar, doubleAttackGrid}
 use Rattle.sbr_search.specs.Search.{multiOnsetGrid}
 use Rattle.sbr_search.specs.Forms.{onsetList}
-use Rattle.sbr_plan.specs.Elect.{solver, doubleFirst, attackGrid}
+use Rattle.sbr_chosen.specs.Elect.{solver, doubleFirst, attackGrid}
 use Rattle.sbr_search.proofs.SearchFrames.{Bounds, bounds, first-onset, second-onset}
 use Rattle.sbr_plan.proofs.PlanCases.{solver-many, solver-few, solver-again, double-many, double-few, late, double, multi, found, passed}
 use Rattle.sbr_plan.proofs.attack_grid.Statement.{statement}

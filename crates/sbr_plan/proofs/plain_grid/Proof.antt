@@ -1,7 +1,7 @@
 -- `sbr_plan::plain_grid` meets its contract.
 use borrow.Author.Tests.{eq-eqb, ne-eqb}
 use borrow.Author.Needs.{needs}
-use Rattle.sbr_plan.specs.Elect.{plainGrid}
+use Rattle.sbr_chosen.specs.Elect.{plainGrid}
 use Rattle.sbr_plan.proofs.plain_grid.Statement.{statement}
 use Rattle.sbr_plan.proofs.plain_grid.Tie as tie
 

@@ -4,7 +4,7 @@ use Prim.Native.Nat.{_-_, _≤_}
 use lib.ListN.{take}
 use lib.Seq.{length-take-le}
 use lib.Ieee.{inf, isNan}
-use Rattle.sbr_energy.specs.Floats.{zero64}
+use Rattle.sbr_floats.specs.Floats.{zero64}
 use Rattle.sbr_resolution.specs.Resolution.{largestFrom, smallestFrom}
 use Rattle.sbr_resolution.proofs.Spread.{largest-none, smallest-none, largest-number, smallest-number, largest-next, smallest-next, spread-few, spread-low, spread-high}
 use borrow.Author.Needs.{needs}

@@ -1,0 +1,42 @@
+// What the call of C for reading does. sbr_c exports it.
+use sbr_reader::Carried;
+ghost use Rattle.sbr_reader.specs.Read.{readGrid};
+ghost use Rattle.sbr_give.specs.Given.{Gives};
+ghost use Rattle.c_read.specs.Frames.{frameOut};
+
+// The frame at a bit position: record, time grid, the position after it and its last border.
+pub fn read_grid(
+    bytes: &[u8],
+    num_time_slots: u64,
+    position: &mut u64,
+    border: &mut i32,
+    numbers: &mut [u32; 9],
+    freq_res: &mut [u8; 5],
+    rel_bord_0: &mut [u8; 4],
+    rel_bord_1: &mut [u8; 4],
+    t_e: &mut [u32; 6],
+    t_q: &mut [u32; 3],
+    l_a: &mut i32,
+) -> u32
+    ensures { λ r. ⌜ Gives (readGrid (now (bytes .entry)) (now (position .entry)) «num_time_slots» (now (border .entry))) frameOut (now (position .entry), now (border .entry), (now (numbers .entry), now («freq_res» .entry), now («rel_bord_0» .entry), now («rel_bord_1» .entry)), (now («t_e» .entry), now («t_q» .entry), now («l_a» .entry))) r (now (position .exit), now (border .exit), (now (numbers .exit), now («freq_res» .exit), now («rel_bord_0» .exit), now («rel_bord_1» .exit)), (now («t_e» .exit), now («t_q» .exit), now («l_a» .exit))) ⌝ }
+{
+    let at = *position as usize;
+    let before = *border;
+    let read = sbr_reader::read_grid(
+        bytes,
+        at,
+        num_time_slots as usize,
+        Carried { border: before },
+    );
+    let answer = read.answer;
+    let code = sbr_give::code_of(answer);
+    if code != 0 {
+        return code;
+    }
+    let last = read.carried.border;
+    *position = read.position as u64;
+    *border = last;
+    sbr_give::give_record(read.grid, numbers, freq_res, rel_bord_0, rel_bord_1);
+    sbr_give::give_times(read.time, t_e, t_q, l_a);
+    0
+}

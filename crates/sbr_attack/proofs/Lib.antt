@@ -1,0 +1,2 @@
+pub mod AttackLists
+pub mod AttackGrids
