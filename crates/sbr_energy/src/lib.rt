@@ -15,11 +15,20 @@ pub struct Sums {
     pub d: f64,
 }
 
-// The sums of w bands of four columns side by side: from band k on of the columns c and c + 1, from band m on of e and e + 1.
-pub fn band_sums(x: &[f64], w: usize, c: usize, k: usize, e: usize, m: usize) -> Sums
-    requires { ⌜ (k + w ≤ 64) × (m + w ≤ 64) × ((c + 2) * 128 ≤ length (now x)) × ((e + 2) * 128 ≤ length (now x)) ⌝ }
-    ensures { λ r. ⌜ (r .a ≡ bandSum (columns (now (x .entry))) k (k + w) c) × (r .b ≡ bandSum (columns (now (x .entry))) k (k + w) (c + 1)) ⌝ }
-    ensures { λ r. ⌜ (r .c ≡ bandSum (columns (now (x .entry))) m (m + w) e) × (r .d ≡ bandSum (columns (now (x .entry))) m (m + w) (e + 1)) ⌝ }
+// The sums of w bands of four columns side by side: from band k on of the columns c and d, from band m on of e and f.
+pub fn band_sums(
+    x: &[f64],
+    w: usize,
+    k: usize,
+    c: usize,
+    d: usize,
+    m: usize,
+    e: usize,
+    f: usize,
+) -> Sums
+    requires { ⌜ (k + w ≤ 64) × (m + w ≤ 64) × ((c + 1) * 128 ≤ length (now x)) × ((d + 1) * 128 ≤ length (now x)) × ((e + 1) * 128 ≤ length (now x)) × ((f + 1) * 128 ≤ length (now x)) ⌝ }
+    ensures { λ r. ⌜ (r .a ≡ bandSum (columns (now (x .entry))) k (k + w) c) × (r .b ≡ bandSum (columns (now (x .entry))) k (k + w) d) ⌝ }
+    ensures { λ r. ⌜ (r .c ≡ bandSum (columns (now (x .entry))) m (m + w) e) × (r .d ≡ bandSum (columns (now (x .entry))) m (m + w) f) ⌝ }
 {
     let mut a = 0.0;
     let mut b = 0.0;
@@ -27,9 +36,9 @@ pub fn band_sums(x: &[f64], w: usize, c: usize, k: usize, e: usize, m: usize) ->
     let mut t = 0.0;
     for i in 0..w {
         a = a + samples::energy(x, c, k + i);
-        b = b + samples::energy(x, c + 1, k + i);
+        b = b + samples::energy(x, d, k + i);
         s = s + samples::energy(x, e, m + i);
-        t = t + samples::energy(x, e + 1, m + i);
+        t = t + samples::energy(x, f, m + i);
     }
     Sums {
         a: a,
@@ -39,19 +48,26 @@ pub fn band_sums(x: &[f64], w: usize, c: usize, k: usize, e: usize, m: usize) ->
     }
 }
 
-// The energies of the first n slots over the bands kl to kh, two slots at a time; the places past them are 0.0.
+// A quarter of the most slots.
+const QUARTER: usize = 6;
+
+// The energies of the first n slots over the bands kl to kh, a slot of each quarter at a time, so that each of four places is read in its
+// order; the last quarter ends at slot n. The places past them are 0.0.
 pub fn slot_energies(x: &[f64], n: usize, kl: usize, kh: usize) -> [f64; 24]
-    requires { ⌜ (n ≤ 24) × (kl ≤ kh) × (kh ≤ 64) × ((2 * n + 2) * 128 ≤ length (now x)) ⌝ }
+    requires { ⌜ (18 ≤ n) × (n ≤ 24) × (kl ≤ kh) × (kh ≤ 64) × ((2 * n + 2) * 128 ≤ length (now x)) ⌝ }
     ensures { λ r. ⌜ r ≡ slotEnergies (columns (now (x .entry))) kl kh n ⌝ }
 {
     let mut out = [0.0; 24];
-    let mut s = 0;
-    while s < n {
-        let last = if s + 1 < n { s + 1 } else { s };
-        let sums = band_sums(x, kh - kl, 2 * s + 2, kl, 2 * last + 2, kl);
-        out[s] = 0.0 + sums.a + sums.b;
-        out[last] = 0.0 + sums.c + sums.d;
-        s = last + 1;
+    for s in 0..QUARTER {
+        let c = 2 * s + 2;
+        let l = s + n - QUARTER;
+        let f = 2 * l + 2;
+        let first = band_sums(x, kh - kl, kl, c, c + 12, kl, c + 24, f);
+        let second = band_sums(x, kh - kl, kl, c + 1, c + 13, kl, c + 25, f + 1);
+        out[s] = 0.0 + first.a + second.a;
+        out[s + 6] = 0.0 + first.b + second.b;
+        out[s + 12] = 0.0 + first.c + second.c;
+        out[l] = 0.0 + first.d + second.d;
     }
     out
 }

@@ -15,12 +15,12 @@ slot-none f n =
     let e : n - n ≡ 0 = omega arith in
     rw e (total-none f)
 
--- the two columns, from c on, of one slot more
-pub slot-more : (x : Samples) (kl kh t0 t u c : ℕ) (sum a b : Float) → t0 ≤ t → u ≡ t + 1 → c ≡ 2 * t + 2 → sum ≡ bandTotal x t0 t kl kh
-    → a ≡ bandSum x kl kh c → b ≡ bandSum x kl kh (c + 1) → Ieee.add binary64 (Ieee.add binary64 sum a) b ≡ bandTotal x t0 u kl kh
-slot-more x kl kh t0 t u c sum a b h l m p q r =
+-- the two columns, c and d, of one slot more
+pub slot-more : (x : Samples) (kl kh t0 t u c d : ℕ) (sum a b : Float) → t0 ≤ t → u ≡ t + 1 → c ≡ 2 * t + 2 → d ≡ 2 * t + 3 → sum ≡ bandTotal x t0 t kl kh
+    → a ≡ bandSum x kl kh c → b ≡ bandSum x kl kh d → Ieee.add binary64 (Ieee.add binary64 sum a) b ≡ bandTotal x t0 u kl kh
+slot-more x kl kh t0 t u c d sum a b h l m o p q r =
     let n : ℕ = 2 * t + 2 - (2 * t0 + 2) in
     let e : 2 * u + 2 - (2 * t0 + 2) ≡ n + 1 + 1 = omega arith in
     let f : 2 * t0 + 2 + n ≡ c = omega arith in
-    let g : 2 * t0 + 2 + (n + 1) ≡ c + 1 = omega arith in
+    let g : 2 * t0 + 2 + (n + 1) ≡ d = omega arith in
     rw e (total-more _ _ _ _ (total-more _ _ _ _ p (rw f q)) (rw g r))

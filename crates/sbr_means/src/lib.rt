@@ -24,7 +24,7 @@ fn pair_sums(x: &[f64], k: usize, w: usize, t0: usize, t1: usize) -> Pair
     let mut b = 0.0;
     for t in t0..t1 {
         let c = 2 * t + 2;
-        let sums = sbr_energy::band_sums(x, w, c, k, c, k + w);
+        let sums = sbr_energy::band_sums(x, w, k, c, c + 1, k + w, c, c + 1);
         a = a + sums.a + sums.b;
         b = b + sums.c + sums.d;
     }
@@ -58,13 +58,13 @@ fn band_sum(x: &[f64], k: usize, w: usize, t0: usize, t1: usize) -> f64
     let mut t = t0;
     while t + 1 < t1 {
         let c = 2 * t + 2;
-        let sums = sbr_energy::band_sums(x, w, c, k, c + 2, k);
+        let sums = sbr_energy::band_sums(x, w, k, c, c + 1, k, c + 2, c + 3);
         sum = sum + sums.a + sums.b + sums.c + sums.d;
         t += 2;
     }
     if t < t1 {
         let c = 2 * t + 2;
-        let sums = sbr_energy::band_sums(x, w, c, k, c, k);
+        let sums = sbr_energy::band_sums(x, w, k, c, c + 1, k, c, c + 1);
         sum = sum + sums.a + sums.b;
     }
     sum

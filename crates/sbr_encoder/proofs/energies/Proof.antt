@@ -37,7 +37,7 @@ slot-energies-requires c κs =
     let t = fit (c .before) .high in
     let r = slot-range _ (c .before .before .before .before .before .pre .0) in
     let l = length (c .before .before .before .before .before .args .high .now) - 1 in
-    (omega (arith, r), omega (arith, t .rising 0 l (omega (arith, t .some)) (omega (arith, t .some))), t .by64 l (omega (arith, t .some)), c .before .before .before .before .before .pre .1 .enough)
+    (omega (arith, r), omega (arith, r), omega (arith, t .rising 0 l (omega (arith, t .some)) (omega (arith, t .some))), t .by64 l (omega (arith, t .some)), c .before .before .before .before .before .pre .1 .enough)
 
 returns : tie.Need-returns
 returns c = c .slot-energies .ensures

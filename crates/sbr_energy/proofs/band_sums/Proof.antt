@@ -10,12 +10,12 @@ use Rattle.sbr_energy.proofs.band_sums.Statement.{statement}
 use Rattle.sbr_energy.proofs.band_sums.Tie as tie
 
 abbrev Inv-loop : tie.InvT-loop
-Inv-loop x w c k e m a₀ b₀ s₀ t₀ i₀ a b s t i =
-    let sum : ℕ → ℕ → Float = λ d l. total (λ j. normSqr (columns x d (l + j))) i in
-    (i ≤ w) × (a ≡ sum c k) × (b ≡ sum (c + 1) k) × (s ≡ sum e m) × (t ≡ sum (e + 1) m)
+Inv-loop x w k c d m e f a₀ b₀ s₀ t₀ i₀ a b s t i =
+    let sum : ℕ → ℕ → Float = λ col l. total (λ j. normSqr (columns x col (l + j))) i in
+    (i ≤ w) × (a ≡ sum c k) × (b ≡ sum d k) × (s ≡ sum e m) × (t ≡ sum f m)
 
 abbrev μ-loop : tie.MeasureT-loop
-μ-loop x w c k e m a₀ b₀ s₀ t₀ i₀ a b s t i = w - i
+μ-loop x w k c d m e f a₀ b₀ s₀ t₀ i₀ a b s t i = w - i
 
 loop-holds : tie.Need-loop-holds Inv-loop μ-loop
 loop-holds c = (omega arith, total-none _, total-none _, total-none _, total-none _)
@@ -40,12 +40,6 @@ add-energy-4 c = omega arith
 
 energy-requires-3 : tie.Need-energy-requires-3 Inv-loop μ-loop
 energy-requires-3 c κs = search needs
-
-add-energy-5 : tie.Need-add-energy-5 Inv-loop μ-loop
-add-energy-5 c = omega arith
-
-add-energy-6 : tie.Need-add-energy-6 Inv-loop μ-loop
-add-energy-6 c = omega arith
 
 energy-requires-4 : tie.Need-energy-requires-4 Inv-loop μ-loop
 energy-requires-4 c κs = search needs
@@ -84,12 +78,10 @@ band-sums-spec =
     add-energy
     energy-requires
     add-energy-2
-    add-energy-3
     energy-requires-2
-    add-energy-4
+    add-energy-3
     energy-requires-3
-    add-energy-5
-    add-energy-6
+    add-energy-4
     energy-requires-4
     add-i
     loop-less

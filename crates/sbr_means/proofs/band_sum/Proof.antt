@@ -30,6 +30,12 @@ add-c c = omega arith
 add-band-sums : tie.Need-add-band-sums Inv-loop μ-loop
 add-band-sums c = omega arith
 
+add-band-sums-2 : tie.Need-add-band-sums-2 Inv-loop μ-loop
+add-band-sums-2 c = omega arith
+
+add-band-sums-3 : tie.Need-add-band-sums-3 Inv-loop μ-loop
+add-band-sums-3 c = omega arith
+
 band-sums-requires : tie.Need-band-sums-requires Inv-loop μ-loop
 band-sums-requires c κs = search needs
 
@@ -45,13 +51,19 @@ loop-again c =
     let a = c .before .before .before .before .before .before .before .before .args in
     let sums = c .before .before .before .before .band-sums .ensures in
     let more = slot-more (columns (a .x .now)) (a .k) (a .k + a .w) (a .t0) in
-    (omega arith, omega arith, more (l .t + 1) _ _ _ _ _ (omega arith) (omega arith) (omega arith) (more (l .t) _ _ _ _ _ (omega arith) refl refl (l .inv .2) (sums .0 .0) (sums .0 .1)) (sums .1 .0) (sums .1 .1))
+    (omega arith, omega arith, more (l .t + 1) _ _ _ _ _ _ (omega arith) (omega arith) (omega arith) (omega arith) (more (l .t) _ _ _ _ _ _ (omega arith) refl refl (omega arith) (l .inv .2) (sums .0 .0) (sums .0 .1)) (sums .1 .0) (sums .1 .1))
 
 mul-c-2 : tie.Need-mul-c-2 Inv-loop μ-loop
 mul-c-2 c = omega arith
 
 add-c-2 : tie.Need-add-c-2 Inv-loop μ-loop
 add-c-2 c = omega arith
+
+add-band-sums-4 : tie.Need-add-band-sums-4 Inv-loop μ-loop
+add-band-sums-4 c = omega arith
+
+add-band-sums-5 : tie.Need-add-band-sums-5 Inv-loop μ-loop
+add-band-sums-5 c = omega arith
 
 band-sums-requires-2 : tie.Need-band-sums-requires-2 Inv-loop μ-loop
 band-sums-requires-2 c κs = search needs
@@ -61,7 +73,7 @@ returns c =
     let l = c .before .before .before .before .before .loop in
     let a = c .before .before .before .before .before .before .before .args in
     let sums = c .before .before .band-sums2 .ensures in
-    slot-more (columns (a .x .now)) (a .k) (a .k + a .w) (a .t0) (l .t) _ _ _ _ _ (omega arith) (omega arith) refl (l .inv .2) (sums .0 .0) (sums .0 .1)
+    slot-more (columns (a .x .now)) (a .k) (a .k + a .w) (a .t0) (l .t) _ _ _ _ _ _ (omega arith) (omega arith) refl (omega arith) (l .inv .2) (sums .0 .0) (sums .0 .1)
 
 returns-2 : tie.Need-returns-2 Inv-loop μ-loop
 returns-2 c =
@@ -80,12 +92,16 @@ band-sum-spec =
     mul-c
     add-c
     add-band-sums
+    add-band-sums-2
+    add-band-sums-3
     band-sums-requires
     add-t
     loop-less
     loop-again
     mul-c-2
     add-c-2
+    add-band-sums-4
+    add-band-sums-5
     band-sums-requires-2
     returns
     returns-2)

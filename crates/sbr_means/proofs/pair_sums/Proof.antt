@@ -28,6 +28,12 @@ add-c c = omega arith
 add-band-sums : tie.Need-add-band-sums Inv-loop μ-loop
 add-band-sums c = omega arith
 
+add-band-sums-2 : tie.Need-add-band-sums-2 Inv-loop μ-loop
+add-band-sums-2 c = omega arith
+
+add-band-sums-3 : tie.Need-add-band-sums-3 Inv-loop μ-loop
+add-band-sums-3 c = omega arith
+
 band-sums-requires : tie.Need-band-sums-requires Inv-loop μ-loop
 band-sums-requires c κs = search needs
 
@@ -45,8 +51,8 @@ loop-again c =
     let more = slot-more (columns (a .x .now)) in (
       omega arith,
       omega arith,
-      more (a .k) _ _ (l .t) _ _ _ _ _ (omega arith) refl refl (l .inv .2) (sums .0 .0) (sums .0 .1),
-      more (a .k + a .w) _ _ (l .t) _ _ _ _ _ (omega arith) refl refl (l .inv .3) (sums .1 .0) (sums .1 .1),
+      more (a .k) _ _ (l .t) _ _ _ _ _ _ (omega arith) refl refl (omega arith) (l .inv .2) (sums .0 .0) (sums .0 .1),
+      more (a .k + a .w) _ _ (l .t) _ _ _ _ _ _ (omega arith) refl refl (omega arith) (l .inv .3) (sums .1 .0) (sums .1 .1),
     )
 
 returns : tie.Need-returns Inv-loop μ-loop
@@ -65,6 +71,8 @@ pair-sums-spec =
     mul-c
     add-c
     add-band-sums
+    add-band-sums-2
+    add-band-sums-3
     band-sums-requires
     add-t
     loop-less
