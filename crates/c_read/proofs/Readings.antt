@@ -7,8 +7,6 @@ use native.Mathlib.Omega.{arith}
 use lib.Dec.{ltb}
 use lib.IntN.{ℤ, pos}
 use lib.ListN.{length}
-use Rattle.sbr_grid.specs.declared.FrameClass.{FrameClass}
-use Rattle.sbr_grid.specs.declared.FrameClass.the-variants.{FixFix, FixVar, VarFix, VarVar}
 use Rattle.sbr_grid.specs.Refusals.{answered, answerOf}
 use Rattle.sbr_grid.specs.Grid.{Grid, recordOf}
 use Rattle.sbr_writer.specs.Write.{writable}
@@ -16,7 +14,7 @@ use Rattle.sbr_writer.proofs.Facts.{both, fields-told}
 use Rattle.sbr_reader.specs.declared.Carried.{Carried}
 use Rattle.sbr_reader.specs.declared.Reading.{Reading}
 use Rattle.sbr_reader.specs.Read.{Frame, readGrid, readingOf}
-use Rattle.sbr_parse.specs.Inverse.{clearedAs, cleared}
+use Rattle.sbr_parse.specs.Inverse.{cleared}
 use Rattle.sbr_reader.proofs.Frames.{frame-writes}
 use Rattle.sbr_give.specs.Given.{codeOf, timeOut}
 use Rattle.sbr_give.specs.Given.{Few}
@@ -29,17 +27,14 @@ one-or-two true = omega arith
 one-or-two false = omega arith
 
 -- a record that is read has one noise floor or two
-noise-few : (k : FrameClass) (g : Grid) → clearedAs k g .numNoise ≤ 2
-noise-few FixFix g = one-or-two (ltb 1 (length (g .freqRes)))
-noise-few FixVar g = one-or-two (ltb 1 (length (g .freqRes)))
-noise-few VarFix g = one-or-two (ltb 1 (length (g .freqRes)))
-noise-few VarVar g = one-or-two (ltb 1 (length (g .freqRes)))
+noise-few : (g : Grid) → cleared g .numNoise ≤ 2
+noise-few g = one-or-two (ltb 1 (length (g .freqRes)))
 
 -- a record that can be written, with what its class does not send cleared, has small counts
 pub few-of : (g : Grid) → writable g ≡ true → cleared g ≡ g → Few (recordOf g)
 few-of g fits clear =
     let t = fields-told g (both _ _ fits .0) in
-    record { env = t .most; noise = rw (ap (λ x. x .numNoise) clear) at (noise-few (g .frameClass) g); rel0 = t .rel0; rel1 = t .rel1 }
+    record { env = t .most; noise = rw (ap (λ x. x .numNoise) clear) at (noise-few g); rel0 = t .rel0; rel1 = t .rel1 }
 
 -- what a program gives of a reading
 abbrev given : Reading → ℕ × ℤ × (List ℕ × List ℕ × List ℕ × List ℕ) × (List ℕ × List ℕ × ℤ)

@@ -9,7 +9,7 @@ use Rattle.sbr_grid.specs.declared.FrameClass.the-variants.{FixFix, FixVar, Var
 use Rattle.sbr_grid.specs.Grid.{Grid}
 use Rattle.sbr_time_grid.specs.TimeGrid.{timeGrid, countsFit, bordersFit, noiseFits, absBordLead, absBordTrail, nRelLead, nRelTrail, relBordLead, tE, middleBorder, lA, tQ}
 use Rattle.sbr_writer.specs.Write.{writable, fieldsFit, classFits}
-use Rattle.sbr_parse.specs.Inverse.{clearedAs, cleared}
+use Rattle.sbr_parse.specs.Inverse.{cleared}
 use Rattle.sbr_encoder.specs.Election.{withFreqRes}
 
 module _ (n : ℕ) (fs : List Bool) (g : Grid) (e : length fs ≡ length (g .freqRes)) where
@@ -45,7 +45,7 @@ module _ (n : ℕ) (fs : List Bool) (g : Grid) (e : length fs ≡ length (g .fre
   unfolding timeGrid bordersFit
   time-res = rw (e, border-res, counts-res, noise-res, floors-res, mark-res) refl
 
--- outside FixFix, the writer's tests and the fields that are not sent
+-- outside FixFix, the writer's tests
 writable-res : (c : FrameClass) (fs : List Bool) (g : Grid) → (c ≡ FixFix → ⊥) → length fs ≡ length (g .freqRes)
     → (fieldsFit (withFreqRes fs g) && classFits c (withFreqRes fs g)) ≡ (fieldsFit g && classFits c g)
 unfolding fieldsFit classFits
@@ -54,12 +54,9 @@ writable-res FixVar fs g d e = rw e refl
 writable-res VarFix fs g d e = rw e refl
 writable-res VarVar fs g d e = rw e refl
 
-cleared-res : (c : FrameClass) (fs : List Bool) (g : Grid) → (c ≡ FixFix → ⊥) → length fs ≡ length (g .freqRes)
-    → clearedAs c (withFreqRes fs g) ≡ withFreqRes fs (clearedAs c g)
-cleared-res FixFix fs g d e = absurd (d refl)
-cleared-res FixVar fs g d e = rw e refl
-cleared-res VarFix fs g d e = rw e refl
-cleared-res VarVar fs g d e = rw e refl
+-- the fields that are not sent
+cleared-res : (fs : List Bool) (g : Grid) → length fs ≡ length (g .freqRes) → cleared (withFreqRes fs g) ≡ withFreqRes fs (cleared g)
+cleared-res fs g e = rw e refl
 
 -- a record that is written, and read back as it is
 pub record Kept (g : Grid) : Type 0 where
@@ -68,4 +65,4 @@ pub record Kept (g : Grid) : Type 0 where
 
 pub kept-res : (fs : List Bool) (g : Grid) → (g .frameClass ≡ FixFix → ⊥) → length fs ≡ length (g .freqRes) → Kept g → Kept (withFreqRes fs g)
 kept-res fs g d e k =
-    record { fits = writable-res (g .frameClass) fs g d e ∙ k .fits; clear = cleared-res (g .frameClass) fs g d e ∙ ap (withFreqRes fs) (k .clear) }
+    record { fits = writable-res (g .frameClass) fs g d e ∙ k .fits; clear = cleared-res fs g e ∙ ap (withFreqRes fs) (k .clear) }

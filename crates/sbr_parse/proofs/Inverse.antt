@@ -1,8 +1,9 @@
 -- Writing and reading are inverse: the proofs of specs/Inverse.antt.
 use mathlib.Core.Path.{_≡_, refl, ap, _∙_, subst}
-use mathlib.Core.Bool.{Bool, true, false, _&&_, _||_, false≢true}
+use mathlib.Core.Bool.{Bool, true, false, _||_, false≢true}
 use mathlib.Core.List.{List, [], _∷_, _++_, reverse, reverse-reverse}
 use Prim.Native.Nat.{ℕ, zero, suc, _+_, _-_, _*_, _^_, _≤_, _<_}
+use native.Mathlib.Nat.{zero-add, add-zero}
 use native.Mathlib.Omega.{arith}
 use borrow.Author.Tests.{le-leb, leb-true, eq-eqb, eqb-true, ne-eqb}
 use lib.Dec.{leb, eqb}
@@ -16,43 +17,26 @@ use Rattle.sbr_grid.proofs.Widths.{ptr-bits-log}
 use Rattle.sbr_grid.proofs.Laws.{class-of-code, code-lt}
 use Rattle.sbr_writer.specs.Syntax.{twos, envCode, bodyBits, gridBits}
 use Rattle.sbr_writer.specs.Write.{every, small, allAre, classFits, fieldsFit, writable}
-use Rattle.sbr_writer.proofs.Facts.{both, Fields, fields-told, fields-fit}
-use Rattle.sbr_parse.specs.Syntax.{Reader, _>>=_, pure, flags, field, lengths, received, fixFix, fixVar, varFix, varVar, sbrGrid}
-use Rattle.sbr_parse.specs.Inverse.{cleared, clearedAs, ReadsBack, WritesBack}
+use Rattle.sbr_writer.proofs.Facts.{both, fields-told, fields-fit}
+use Rattle.sbr_parse.specs.Syntax.{received, ordered, behindCounts, fixFix, fixVar, varFix, varVar, sbrGrid}
+use Rattle.sbr_parse.specs.Inverse.{cleared, ReadsBack, WritesBack}
 use Rattle.sbr_parse.proofs.Monad.{Back, Reads, Seen, back-then, back-map, back-flags, back-field, back-counted, back-lengths, seen-then, seen-map, seen-flags, seen-field, seen-counted, seen-lengths}
-
--- ---- what the bodies share
-
--- pointer and flags, the end of every body with a variable border
-abbrev ending : ℕ → (ℕ → List Bool → Grid) → Reader Grid
-ending n make = do
-  p ← field (ptrBits n)
-  res ← flags n
-  pure (make p res)
-
--- the body of a class with one variable border
-abbrev sided : (ℕ → List ℕ → ℕ → List Bool → Grid) → Reader Grid
-sided make = do
-  b ← field 2
-  k ← field 2
-  rel ← lengths k
-  ending (k + 1) (make b rel)
-
--- what they write is read back
-back-ending : (make : ℕ → List Bool → Grid) (k n p : ℕ) (res : List Bool) → k ≡ n → p ≤ n → length res ≡ n
-    → Back (ending k make) (make p res) (bitsOf (ptrBits n) p ++ res)
-back-ending make k n p res e l h =
-    rw e (back-then _ (back-field (ptrBits n) p (omega (arith, ptr-bits-log n .holds))) (back-map (make p) (back-flags n res h)))
-
-back-sided : (make : ℕ → List ℕ → ℕ → List Bool → Grid) (b : ℕ) (rel : List ℕ) (n p : ℕ) (res : List Bool)
-    → b ≤ 3 → small rel ≡ true → length rel + 1 ≡ n → n ≤ 4 → p ≤ n → length res ≡ n
-    → Back (sided make) (make b rel p res) (bitsOf 2 b ++ (bitsOf 2 (length rel) ++ (twos rel ++ (bitsOf (ptrBits n) p ++ res))))
-back-sided make b rel n p res l s e f h i =
-    back-then _ (back-field 2 b (omega arith))
-    (back-then _ (back-field 2 (length rel) (omega arith))
-    (back-then _ (back-lengths rel s) (back-ending (make b rel) (length rel + 1) n p res e h i)))
+use Rattle.sbr_parse.proofs.ParseLaws.{length-ordered}
 
 -- ---- what was written is read back
+
+-- what stands behind the counts of n envelopes
+back-behind : (c : FrameClass) (b0 b1 : ℕ) (rel0 rel1 : List ℕ) (n p : ℕ) (res : List Bool) → small rel0 ≡ true → small rel1 ≡ true
+    → length rel0 + length rel1 + 1 ≡ n → p ≤ n → length res ≡ n
+    → Back (behindCounts c b0 b1 (length rel0) (length rel1)) (received c (ordered c res) b0 b1 rel0 rel1 p)
+    (twos rel0 ++ (twos rel1 ++ (bitsOf (ptrBits n) p ++ res)))
+unfolding behindCounts
+back-behind c b0 b1 rel0 rel1 n p res s0 s1 e l h =
+    rw e
+    (back-then _ (back-lengths rel0 s0)
+    (back-then _ (back-lengths rel1 s1)
+    (back-then _ (back-field (ptrBits n) p (omega (arith, ptr-bits-log n .holds)))
+    (back-map (λ r. received c (ordered c r) b0 b1 rel0 rel1 p) (back-flags n res h)))))
 
 -- flags that are all b are that many b
 all-same : (b : Bool) (fs : List Bool) → allAre b fs ≡ true → replicate (length fs) b ≡ fs
@@ -89,24 +73,32 @@ back-fixed fs h a =
     (rw e at (back-map (λ res. received FixFix (replicate (2 ^ t) (getD res 0 false)) 0 0 [] [] 0) (back-flags 1 (b ∷ []) refl))))
 
 -- the body of each class
-pub back-body : (c : FrameClass) (g : Grid) → fieldsFit g ≡ true → classFits c g ≡ true → Back (byClass c fixFix fixVar varFix varVar) (clearedAs c g) (bodyBits c g)
-unfolding bodyBits classFits fixVar varFix varVar
-back-body FixFix g h k =
+pub back-body : (c : FrameClass) (g : Grid) → g .frameClass ≡ c → fieldsFit g ≡ true → classFits c g ≡ true → Back (byClass c fixFix fixVar varFix varVar) (cleared g) (bodyBits c g)
+unfolding bodyBits classFits fixVar varFix varVar twos every
+back-body FixFix g q h k =
     let t = both _ _ k in
-    back-fixed (g .freqRes) (t .0) (t .1)
-back-body FixVar g h k =
-    let t = both _ _ k in
-    let f = fields-told g h in
-    rw (reverse-reverse (g .freqRes)) at (back-sided (λ b rel p res. received FixVar (reverse res) 0 b [] rel p)
-    (g .varBord1) (g .relBord1) (numEnv g) (g .pointer) (reverse (g .freqRes)) (f .bord1) (f .small1)
-    (eqb-true _ _ (t .0)) (leb-true _ _ (t .1)) (f .pointed) (length-reverse (g .freqRes)))
-back-body VarFix g h k =
+    rw q (back-fixed (g .freqRes) (t .0) (t .1))
+back-body FixVar g q h k =
     let t = both _ _ k in
     let f = fields-told g h in
-    back-sided (λ b rel p res. received VarFix res b 0 rel [] p)
-    (g .varBord0) (g .relBord0) (numEnv g) (g .pointer) (g .freqRes) (f .bord0) (f .small0)
-    (eqb-true _ _ (t .0)) (leb-true _ _ (t .1)) (f .pointed) refl
-back-body VarVar g h k =
+    let e : length (g .relBord1) + 1 ≡ numEnv g = eqb-true _ _ (t .0) in
+    let l : numEnv g ≤ 4 = leb-true _ _ (t .1) in
+    rw q
+    (back-then _ (back-field 2 (g .varBord1) (omega arith))
+    (back-then _ (back-field 2 (length (g .relBord1)) (omega arith))
+    (rw (reverse-reverse (g .freqRes)) at (back-behind FixVar 0 (g .varBord1) [] (g .relBord1) (numEnv g) (g .pointer) (reverse (g .freqRes)) refl (f .small1)
+    (omega arith) (f .pointed) (length-reverse (g .freqRes))))))
+back-body VarFix g q h k =
+    let t = both _ _ k in
+    let f = fields-told g h in
+    let e : length (g .relBord0) + 1 ≡ numEnv g = eqb-true _ _ (t .0) in
+    let l : numEnv g ≤ 4 = leb-true _ _ (t .1) in
+    rw q
+    (back-then _ (back-field 2 (g .varBord0) (omega arith))
+    (back-then _ (back-field 2 (length (g .relBord0)) (omega arith))
+    (back-behind VarFix (g .varBord0) 0 (g .relBord0) [] (numEnv g) (g .pointer) (g .freqRes) (f .small0) refl
+    (omega arith) (f .pointed) refl)))
+back-body VarVar g q h k =
     let t = both _ _ k in
     let s = both _ _ (t .0) in
     let f = fields-told g h in
@@ -114,15 +106,14 @@ back-body VarVar g h k =
     let e : m ≡ numEnv g = eqb-true _ _ (s .0) in
     let l0 : length (g .relBord0) ≤ 3 = leb-true _ _ (s .1) in
     let l1 : length (g .relBord1) ≤ 3 = leb-true _ _ (t .1) in
-    back-then _ (back-field 2 (g .varBord0) (omega arith))
+    rw q
+    (back-then _ (back-field 2 (g .varBord0) (omega arith))
     (back-then _ (back-field 2 (g .varBord1) (omega arith))
     (back-then _ (back-field 2 (length (g .relBord0)) (omega arith))
     (back-then _ (back-field 2 (length (g .relBord1)) (omega arith))
     (back-then _ (back-counted m (leb m 5) (le-leb m 5 (omega arith)))
-    (back-then _ (back-lengths (g .relBord0) (f .small0))
-    (back-then _ (back-lengths (g .relBord1) (f .small1))
-    (back-ending (λ p res. received VarVar res (g .varBord0) (g .varBord1) (g .relBord0) (g .relBord1) p) m (numEnv g) (g .pointer)
-    (g .freqRes) e (f .pointed) refl)))))))
+    (back-behind VarVar (g .varBord0) (g .varBord1) (g .relBord0) (g .relBord1) (numEnv g) (g .pointer) (g .freqRes) (f .small0)
+    (f .small1) e (f .pointed) refl))))))
 
 -- a record that can be written is read from the bits that it writes
 pub back-grid : (g : Grid) → writable g ≡ true → Back sbrGrid (cleared g) (gridBits g)
@@ -130,7 +121,7 @@ unfolding sbrGrid gridBits
 back-grid g h =
     let t = both _ _ h in
     back-then _ (back-field 2 (classCode (g .frameClass)) (code-lt (g .frameClass)))
-    (rw (class-of-code (g .frameClass)) (back-body (g .frameClass) g (t .0) (t .1)))
+    (rw (class-of-code (g .frameClass)) (back-body (g .frameClass) g refl (t .0) (t .1)))
 
 -- what any writable record writes is read back, whatever bits follow
 pub reads-back : ReadsBack
@@ -146,28 +137,6 @@ pub record Sent (g : Grid) (u : List Bool) : Type 0 where
   pub bits : u ≡ gridBits g
   pub narrow : g .pointer < 2 ^ ptrBits (numEnv g)
   pub fits : g .pointer ≤ numEnv g → writable g ≡ true
-
--- pointer and flags, as many as envelopes
-seen-ending : (make : ℕ → List Bool → Grid) (Q : Grid → List Bool → Type 0) (k n : ℕ) → k ≤ 5 → k + 3 ≤ n
-    → ((p : ℕ) (res : List Bool) → p < 2 ^ ptrBits k → length res ≡ k → Q (make p res) (bitsOf (ptrBits k) p ++ res)) → Reads n Q (ending k make)
-seen-ending make Q k n l h q =
-    let w : ptrBits k ≤ 3 = ptr-bits-log k .least 3 (omega arith) in
-    seen-then _ Q n (seen-field (ptrBits k)) (omega arith)
-    (λ p i. seen-map (make p) _ (n - ptrBits k) (seen-flags k) (omega arith) (λ res e. q p res i e))
-
--- a body with one variable border
-seen-sided : (make : ℕ → List ℕ → ℕ → List Bool → Grid) (Q : Grid → List Bool → Type 0)
-    → ((b : ℕ) (rel : List ℕ) (p : ℕ) (res : List Bool) → b ≤ 3 → length rel ≤ 3 → small rel ≡ true → p < 2 ^ ptrBits (length rel + 1)
-    → length res ≡ length rel + 1
-    → Q (make b rel p res) (bitsOf 2 b ++ (bitsOf 2 (length rel) ++ (twos rel ++ (bitsOf (ptrBits (length rel + 1)) p ++ res)))))
-    → Reads 24 Q (sided make)
-seen-sided make Q q =
-    seen-then _ Q 24 (seen-field 2) (omega arith)
-    (λ b hb. seen-then _ _ 22 (seen-field 2) (omega arith)
-    (λ k hk. seen-then _ _ 20 (seen-lengths k) (omega arith)
-    (λ rel hr. seen-ending (make b rel) _ (k + 1) (20 - 2 * k) (omega arith) (omega arith)
-    (λ p res hp he. rw (← (hr .0))
-    (q b rel p res (omega arith) (omega (arith, hr .0)) (hr .1) (rw (hr .0) hp) (rw (hr .0) he))))))
 
 -- a record without variable borders: one flag for all envelopes
 same-all : (b : Bool) (n : ℕ) → allAre b (replicate n b) ≡ true
@@ -189,57 +158,73 @@ one-flag [] e = absurd (omega arith)
 one-flag (b ∷ []) e = refl
 one-flag (b ∷ (c ∷ fs)) e = absurd (omega arith)
 
--- a record with variable borders: its lists have a length for each envelope but one
-sent-variable : (g : Grid) (u : List Bool) → g .varBord0 ≤ 3 → g .varBord1 ≤ 3 → length (g .relBord0) ≤ 3 → length (g .relBord1) ≤ 3
-    → small (g .relBord0) ≡ true → small (g .relBord1) ≡ true → numEnv g ≡ length (g .relBord0) + length (g .relBord1) + 1
-    → numEnv g ≤ 5 → g .pointer < 2 ^ ptrBits (numEnv g) → cleared g ≡ g → classFits (g .frameClass) g ≡ true → u ≡ gridBits g
-    → Sent g u
-sent-variable g u b0 b1 l0 l1 s0 s1 e m p c k h =
+-- what is read behind the counts, where each record that has it is cleared, one that its class can send, and writes the bits s of it
+seen-behind : (c : FrameClass) (b0 b1 j k n : ℕ) (s : List Bool → List Bool) → b0 ≤ 3 → b1 ≤ 3 → j ≤ 3 → k ≤ 3 → j + k + 1 ≤ 5 → 3 * (j + k) + 4 ≤ n
+    → ((rel0 rel1 : List ℕ) (p : ℕ) (res : List Bool) → length rel0 ≡ j → length rel1 ≡ k → length res ≡ j + k + 1
+    → let g = received c (ordered c res) b0 b1 rel0 rel1 p in
+    (cleared g ≡ g) × (classFits c g ≡ true) × (s (twos rel0 ++ (twos rel1 ++ (bitsOf (ptrBits (j + k + 1)) p ++ res))) ≡ gridBits g))
+    → Reads n (λ g v. Sent g (s v)) (behindCounts c b0 b1 j k)
+unfolding behindCounts
+seen-behind c b0 b1 j k n s l0 l1 lj lk l h q =
+    let m = j + k + 1 in
+    let w : ptrBits m ≤ 3 = ptr-bits-log m .least 3 (omega arith) in
+    seen-then _ _ n (seen-lengths j) (omega arith)
+    (λ rel0 r0. seen-then _ _ (n - 2 * j) (seen-lengths k) (omega arith)
+    (λ rel1 r1. seen-then _ _ (n - 2 * j - 2 * k) (seen-field (ptrBits m)) (omega arith)
+    (λ p hp. seen-map (λ res. received c (ordered c res) b0 b1 rel0 rel1 p) _ (n - 2 * j - 2 * k - ptrBits m) (seen-flags m) (omega arith)
+    (λ res d.
+    let g = received c (ordered c res) b0 b1 rel0 rel1 p in
+    let t = q rel0 rel1 p res (r0 .0) (r1 .0) d in
+    let e : length (ordered c res) ≡ m = length-ordered (byClass c false true false false) res ∙ d in
     record {
-      clear = c;
-      held = omega arith;
-      bits = h;
-      narrow = p;
-      fits = λ i. rw (fields-fit g (fields i), k);
-    }
-  where
-    fields : g .pointer ≤ numEnv g → Fields g
-    fields i =
-        record {
+      clear = t .0;
+      held = omega (arith, r0 .0, r1 .0);
+      bits = t .2;
+      narrow = rw e hp;
+      fits = λ i. rw (
+        fields-fit g (record {
           some = omega arith;
-          most = m;
-          bord0 = b0;
-          bord1 = b1;
-          rel0 = omega arith;
-          rel1 = omega arith;
-          small0 = s0;
-          small1 = s1;
+          most = omega arith;
+          bord0 = l0;
+          bord1 = l1;
+          rel0 = omega (arith, r0 .0);
+          rel1 = omega (arith, r1 .0);
+          small0 = r0 .1;
+          small1 = r1 .1;
           pointed = i;
-        }
+        }),
+        t .1,
+      );
+    }))))
 
--- the test of a class with one variable border holds
-one-side : (k n : ℕ) → n ≡ k + 1 → k ≤ 3 → (eqb (k + 1) n && leb n 4) ≡ true
-one-side k n e l = rw (eq-eqb (k + 1) n (omega arith), le-leb n 4 (omega arith))
+-- a count of 0 is that of no lengths
+no-lengths : (rs : List ℕ) → length rs ≡ 0 → rs ≡ []
+no-lengths [] e = refl
+no-lengths (r ∷ rs) e = absurd (omega arith)
 
 -- every body that is read is that of a record, and has at most 24 bits
 pub seen-body : (c : FrameClass) → Reads 24 (λ g u. Sent g (bitsOf 2 (classCode c) ++ u)) (byClass c fixFix fixVar varFix varVar)
-unfolding fixFix fixVar varFix varVar gridBits bodyBits classFits every
+unfolding fixFix fixVar varFix varVar gridBits bodyBits classFits every twos
 seen-body FixFix =
     seen-then _ _ 24 (seen-field 2) (omega arith)
     (λ t ht. seen-then _ _ 22 (seen-counted (2 ^ t) (leb t 2)) (omega arith)
     (λ n hn. seen-map _ _ 22 (seen-flags 1) (omega arith)
     (λ res e. rw (hn .1, one-flag res e) (sent-fixed t (getD res 0 false) (leb-true t 2 (hn .0))))))
 seen-body FixVar =
-    seen-sided (λ b rel p res. received FixVar (reverse res) 0 b [] rel p) _
-    (λ b rel p res hb hl hs hp he.
-    let e : length (reverse res) ≡ length rel + 1 = length-reverse res ∙ he in
-    sent-variable _ _ (omega arith) hb (omega arith) hl refl hs (omega arith) (omega arith) (rw e hp) refl
-    (one-side (length rel) (length (reverse res)) e hl) (rw (e, reverse-reverse res)))
+    seen-then _ _ 24 (seen-field 2) (omega arith)
+    (λ b hb. seen-then _ _ 22 (seen-field 2) (omega arith)
+    (λ k hk. seen-behind FixVar 0 b 0 k 20 _ (omega arith) (omega arith) (omega arith) (omega arith) (omega arith) (omega arith)
+    (λ rel0 rel1 p res h0 h1 d. rw (no-lengths rel0 h0) (
+      refl,
+      rw (h1, length-reverse res, d, zero-add k, eq-eqb (k + 1) (k + 1) refl, le-leb (k + 1) 4 (omega arith)),
+      rw (length-reverse res, d, h1, reverse-reverse res),
+    ))))
 seen-body VarFix =
-    seen-sided (λ b rel p res. received VarFix res b 0 rel [] p) _
-    (λ b rel p res hb hl hs hp e.
-    sent-variable _ _ hb (omega arith) hl (omega arith) hs refl (omega arith) (omega arith) (rw e hp) refl
-    (one-side (length rel) (length res) e hl) (rw e))
+    seen-then _ _ 24 (seen-field 2) (omega arith)
+    (λ b hb. seen-then _ _ 22 (seen-field 2) (omega arith)
+    (λ j hj. seen-behind VarFix b 0 j 0 20 _ (omega arith) (omega arith) (omega arith) (omega arith) (omega arith) (omega arith)
+    (λ rel0 rel1 p res h0 h1 d. rw (no-lengths rel1 h1)
+    (refl, rw (h0, d, add-zero j, eq-eqb (j + 1) (j + 1) refl, le-leb (j + 1) 4 (omega arith)), rw (d, h0)))))
 seen-body VarVar =
     seen-then _ _ 24 (seen-field 2) (omega arith)
     (λ b0 h0. seen-then _ _ 22 (seen-field 2) (omega arith)
@@ -247,14 +232,12 @@ seen-body VarVar =
     (λ j hj. seen-then _ _ 18 (seen-field 2) (omega arith)
     (λ k hk. seen-then _ _ 16 (seen-counted (j + k + 1) (leb (j + k + 1) 5)) (omega arith)
     (λ n hn. let l : j + k + 1 ≤ 5 = leb-true (j + k + 1) 5 (hn .0) in
-    seen-then _ _ 16 (seen-lengths j) (omega arith)
-    (λ rel0 r0. seen-then _ _ (16 - 2 * j) (seen-lengths k) (omega arith)
-    (λ rel1 r1. seen-ending (λ p res. received VarVar res b0 b1 rel0 rel1 p) _ n (16 - 2 * j - 2 * k)
-    (omega (arith, hn .1)) (omega (arith, hn .1))
-    (λ p res hp e. sent-variable _ _ (omega arith) (omega arith) (omega (arith, r0 .0)) (omega (arith, r1 .0)) (r0 .1) (r1 .1)
-    (omega (arith, r0 .0, r1 .0, hn .1)) (omega (arith, hn .1)) (rw e hp) refl
-    (rw (e, hn .1, r0 .0, r1 .0, eq-eqb (j + k + 1) (j + k + 1) refl, le-leb j 3 (omega arith), le-leb k 3 (omega arith)))
-    (rw (e, r0 .0, r1 .0))))))))))
+    seen-behind VarVar b0 b1 j k 16 _ (omega arith) (omega arith) (omega arith) (omega arith) l (omega arith)
+    (λ rel0 rel1 p res r0 r1 d. (
+      refl,
+      rw (d, r0, r1, eq-eqb (j + k + 1) (j + k + 1) refl, le-leb j 3 (omega arith), le-leb k 3 (omega arith)),
+      rw (d, r0, r1),
+    )))))))
 
 -- a number below 4 is that of its class
 code-of-class : (v : ℕ) → v < 4 → classCode (classOf v) ≡ v

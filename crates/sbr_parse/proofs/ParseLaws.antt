@@ -3,7 +3,7 @@ use mathlib.Core.Path.{_≡_, refl, ap, _∙_}
 use mathlib.Core.Bool.{Bool, true, false, cond}
 use mathlib.Core.List.{List, [], reverse}
 use Prim.Native.Nat.{ℕ, zero, suc, _+_, _*_, _/_, _%_, _^_, _≤_, _<_}
-use native.Mathlib.Nat.{zero-add, add-zero, pow-suc}
+use native.Mathlib.Nat.{add-zero, pow-suc}
 use native.Mathlib.Omega.{arith}
 use borrow.Author.Tests.{le-leb, lt-leb}
 use lib.Dec.{eqb}
@@ -12,14 +12,14 @@ use lib.Pow.{shr-shr, pow-pos}
 use Rattle.bits.specs.Bits.{bitAt, bitsOf}
 use Rattle.bits.proofs.Numbers.{length-bitsOf, bit-high}
 use Rattle.sbr_grid.specs.declared.FrameClass.{FrameClass}
-use Rattle.sbr_grid.specs.declared.FrameClass.the-variants.{FixFix, FixVar, VarFix, VarVar}
+use Rattle.sbr_grid.specs.declared.FrameClass.the-variants.{FixFix, VarVar}
 use Rattle.sbr_grid.specs.declared.Refusal.the-variants.{BitsEnd, EnvelopeCount}
 use Rattle.sbr_grid.specs.Refusals.{answered, refused}
 use Rattle.sbr_grid.specs.declared.Answer.the-variants.{Given}
 use Rattle.sbr_grid.specs.Grid.{byClass, classOf, ptrBits, noiseOf, first}
 use Rattle.sbr_grid.proofs.Widths.{ptr-bits-log}
-use Rattle.sbr_parse.specs.Syntax.{Reader, _>>=_, pure, flags, field, lengths, counted, received, fixFix, fixVar, varFix, varVar, sbrGrid}
-use Rattle.sbr_parse.specs.Parse.{parsedOf, twosOf, ordered, behindCounts}
+use Rattle.sbr_parse.specs.Syntax.{Reader, _>>=_, pure, flags, field, counted, received, ordered, behindCounts, fixFix, fixVar, varFix, varVar, sbrGrid}
+use Rattle.sbr_parse.specs.Parse.{parsedOf, twosOf}
 use Rattle.sbr_parse.specs.declared.Parsed.{Parsed}
 use Rattle.sbr_parse.proofs.ParseReads.{Short, Takes, then-reads, then-short, takes-then, takes-map, takes-field, takes-flags, takes-lengths}
 
@@ -33,6 +33,10 @@ pair-reads f n m v e =
 -- too few bits for the two numbers and k bits behind them
 pub pair-short : {A : Type 0} (f : ℕ → ℕ → Reader A) (k : ℕ) → ((a b : ℕ) → Short k (f a b)) → Short (2 + (2 + k)) (field 2 >>= λ a. field 2 >>= f a)
 pair-short f k s = then-short (λ a. field 2 >>= f a) (2 + k) (takes-field 2) (λ a. then-short (f a) k (takes-field 2) (s a))
+
+-- too few bits for the two numbers, whatever is read behind them
+pub pair-end : {A : Type 0} (f : ℕ → ℕ → Reader A) → Short 4 (field 2 >>= λ a. field 2 >>= f a)
+pair-end f = pair-short f 0 (λ a b n v h. absurd (omega arith))
 
 -- ---- what stands behind the counts
 
@@ -48,7 +52,7 @@ behind-takes c b0 b1 j k =
     (λ p. takes-map (λ res. received c (ordered c res) b0 b1 rel0 rel1 p) (takes-flags n))))
 
 -- putting resolutions in order keeps their number
-length-ordered : (b : Bool) (res : List Bool) → length (cond b (reverse res) res) ≡ length res
+pub length-ordered : (b : Bool) (res : List Bool) → length (cond b (reverse res) res) ≡ length res
 length-ordered true res = length-reverse res
 length-ordered false res = refl
 
@@ -99,34 +103,12 @@ behind-given c b0 b1 j k w q0 q1 q2 m v f d0 d1 d2 d =
     rw (behind-takes c b0 b1 j k .reads w m v (omega arith), shr-shr v m (2 * k + (p + n)), shr-shr v m (p + n), shr-shr v m n, e0, e1, e2)
     (rw (length-ordered (byClass c false true false false) (bitsOf n (v / 2 ^ m)), length-bitsOf n (v / 2 ^ m), length-bitsOf m v, length-twos j (v / 2 ^ q0), length-twos k (v / 2 ^ q1), f))
 
--- ---- FixVar and VarFix
-
--- FixVar needs four bits for its border byte and its count
-pub fix-var-short : Short 4 fixVar
-unfolding fixVar
-fix-var-short = pair-short _ 0 (λ a b n v h. absurd (omega arith))
-
--- with them it goes on as every class does behind its counts, with a trailing side only
-pub fix-var-reads : (n m v : ℕ) → n ≡ 4 + m → fixVar (bitsOf n v) ≡ behindCounts FixVar 0 (v / 2 ^ (m + 2) % 4) 0 (v / 2 ^ m % 4) (bitsOf m v)
-unfolding fixVar behindCounts lengths _>>=_
-fix-var-reads n m v e = pair-reads _ n m v e ∙ rw (zero-add (v / 2 ^ m % 4))
-
--- VarFix needs the same
-pub var-fix-short : Short 4 varFix
-unfolding varFix
-var-fix-short = pair-short _ 0 (λ a b n v h. absurd (omega arith))
-
--- and goes on with a leading side only
-pub var-fix-reads : (n m v : ℕ) → n ≡ 4 + m → varFix (bitsOf n v) ≡ behindCounts VarFix (v / 2 ^ (m + 2) % 4) 0 (v / 2 ^ m % 4) 0 (bitsOf m v)
-unfolding varFix behindCounts lengths _>>=_
-var-fix-reads n m v e = pair-reads _ n m v e ∙ rw (add-zero (v / 2 ^ m % 4))
-
 -- ---- VarVar
 
 -- VarVar needs eight bits for its border bytes and its counts
 pub var-var-short : Short 8 varVar
 unfolding varVar
-var-var-short = pair-short _ 4 (λ a b. pair-short _ 0 (λ j k n v h. absurd (omega arith)))
+var-var-short = pair-short _ 4 (λ a b. pair-end _)
 
 -- counts that make more than five envelopes are refused with 8
 pub var-var-counts : (n q m v : ℕ) → n ≡ 4 + q → q ≡ 4 + m → let j = v / 2 ^ (m + 2) % 4 in let k = v / 2 ^ m % 4 in 5 < j + k + 1
@@ -134,10 +116,10 @@ pub var-var-counts : (n q m v : ℕ) → n ≡ 4 + q → q ≡ 4 + m → let j =
 unfolding varVar counted _>>=_
 var-var-counts n q m v d e h = pair-reads _ n q v d ∙ pair-reads _ q m v e ∙ rw (lt-leb (v / 2 ^ (m + 2) % 4 + v / 2 ^ m % 4 + 1) 5 h)
 
--- with any others it goes on with both sides
+-- with any others it goes on behind them
 pub var-var-reads : (n q m v : ℕ) → n ≡ 4 + q → q ≡ 4 + m → let j = v / 2 ^ (m + 2) % 4 in let k = v / 2 ^ m % 4 in j + k + 1 ≤ 5
     → varVar (bitsOf n v) ≡ behindCounts VarVar (v / 2 ^ (q + 2) % 4) (v / 2 ^ q % 4) j k (bitsOf m v)
-unfolding varVar behindCounts counted _>>=_
+unfolding varVar counted _>>=_
 var-var-reads n q m v d e h = pair-reads _ n q v d ∙ pair-reads _ q m v e ∙ rw (le-leb (v / 2 ^ (m + 2) % 4 + v / 2 ^ m % 4 + 1) 5 h)
 
 -- ---- FixFix

@@ -3,23 +3,19 @@ use mathlib.Core.Path.{_≡_}
 use mathlib.Core.Bool.{Bool, true}
 use mathlib.Core.List.{List, [], _++_}
 use lib.Dec.{leb}
-use Rattle.sbr_grid.specs.declared.FrameClass.{FrameClass}
-use Rattle.sbr_grid.specs.declared.FrameClass.the-variants.{FixFix, FixVar, VarFix, VarVar}
 use Rattle.sbr_grid.specs.Refusals.{answered}
-use Rattle.sbr_grid.specs.Grid.{Grid, numEnv}
+use Rattle.sbr_grid.specs.Grid.{byClass, Grid, numEnv}
 use Rattle.sbr_writer.specs.Syntax.{gridBits}
 use Rattle.sbr_writer.specs.Write.{writable}
 use Rattle.sbr_parse.specs.Syntax.{received, sbrGrid}
 
 -- a record with the fields that its class does not send cleared
-abbrev pub clearedAs : FrameClass → Grid → Grid
-clearedAs FixFix g = received FixFix (g .freqRes) 0 0 [] [] 0
-clearedAs FixVar g = received FixVar (g .freqRes) 0 (g .varBord1) [] (g .relBord1) (g .pointer)
-clearedAs VarFix g = received VarFix (g .freqRes) (g .varBord0) 0 (g .relBord0) [] (g .pointer)
-clearedAs VarVar g = received VarVar (g .freqRes) (g .varBord0) (g .varBord1) (g .relBord0) (g .relBord1) (g .pointer)
-
 abbrev pub cleared : Grid → Grid
-cleared g = clearedAs (g .frameClass) g
+cleared g =
+    let c = g .frameClass in
+    received c (g .freqRes) (byClass c 0 0 (g .varBord0) (g .varBord0)) (byClass c 0 (g .varBord1) 0 (g .varBord1))
+    (byClass c [] [] (g .relBord0) (g .relBord0)) (byClass c [] (g .relBord1) [] (g .relBord1))
+    (byClass c 0 (g .pointer) (g .pointer) (g .pointer))
 
 -- what any writable record writes is read back, whatever bits follow
 abbrev pub ReadsBack : Type 0

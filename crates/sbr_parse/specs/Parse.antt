@@ -1,15 +1,13 @@
 -- Reading from bits that are held in one number.
 use mathlib.Core.Path.{_≡_}
-use mathlib.Core.Bool.{Bool, true, false, cond}
-use mathlib.Core.List.{List, [], _∷_, reverse}
+use mathlib.Core.Bool.{Bool}
+use mathlib.Core.List.{List, [], _∷_}
 use Prim.Native.Nat.{ℕ, zero, suc, _+_, _-_, _*_, _/_, _%_, _^_, _≤_, _<_}
 use lib.ListN.{length}
 use Rattle.bits.specs.Bits.{bitsOf}
 use Rattle.bits.specs.declared.Window.{Window}
-use Rattle.sbr_grid.specs.declared.FrameClass.{FrameClass}
 use Rattle.sbr_grid.specs.Refusals.{Outcome, answerOf, valueOr}
-use Rattle.sbr_grid.specs.Grid.{byClass, ptrBits, Grid, recordOf, empty}
-use Rattle.sbr_parse.specs.Syntax.{Reader, _>>=_, pure, flags, field, lengths, received}
+use Rattle.sbr_grid.specs.Grid.{Grid, recordOf, empty}
 use Rattle.sbr_parse.specs.declared.Parsed.{Parsed}
 
 -- a window of at most 32 bits
@@ -40,16 +38,3 @@ pub record Paired (w : Window) (a b : ℕ) (r : Window) : Type 0 where
 unfoldable pub twosOf : ℕ → ℕ → List ℕ
 twosOf zero v = []
 twosOf (suc k) v = v / 2 ^ (2 * k) % 4 ∷ twosOf k v
-
--- resolutions in the order of the envelopes: FixVar sends the last envelope's first
-abbrev pub ordered : FrameClass → List Bool → List Bool
-ordered c res = cond (byClass c false true false false) (reverse res) res
-
--- what stands behind the counts j and k of relative lengths, for each class that sends such counts
-unfoldable pub behindCounts : FrameClass → ℕ → ℕ → ℕ → ℕ → Reader Grid
-behindCounts c b0 b1 j k = do
-  rel0 ← lengths j
-  rel1 ← lengths k
-  p ← field (ptrBits (j + k + 1))
-  res ← flags (j + k + 1)
-  pure (received c (ordered c res) b0 b1 rel0 rel1 p)

@@ -17,13 +17,16 @@ infixl 20 _>>=_
 abbrev pub Reader : Type 0 → Type 0
 Reader A = List Bool → Outcome (A × List Bool)
 
+-- the next reader goes on behind what was read; a refusal stays
 abbrev pub onward : {A B : Type 0} → (A → Reader B) → Outcome (A × List Bool) → Outcome (B × List Bool)
 onward f (answered p) = f (p .0) (p .1)
 onward f (refused e) = refused e
 
+-- one reader after another
 unfoldable pub _>>=_ : {A B : Type 0} → Reader A → (A → Reader B) → Reader B
 _>>=_ m f = λ bs. onward f (m bs)
 
+-- a value that takes no bits
 abbrev pub pure : {A : Type 0} → A → Reader A
 pure a = λ bs. answered (a, bs)
 
@@ -52,6 +55,7 @@ abbrev pub received : FrameClass → List Bool → ℕ → ℕ → List ℕ → 
 received c res b0 b1 rel0 rel1 p =
     made c (noiseOf (length res)) res b0 b1 rel0 rel1 p (byClass c true false false false && eqb (length res) 1)
 
+-- FIXFIX: the count of envelopes as a power of 2, and one resolution for all
 unfoldable pub fixFix : Reader Grid
 fixFix = do
   tmp ← field 2
@@ -59,37 +63,38 @@ fixFix = do
   res ← flags 1
   pure (received FixFix (replicate n (getD res 0 false)) 0 0 [] [] 0)
 
-unfoldable pub fixVar : Reader Grid
-fixVar = do
-  b1 ← field 2
-  k ← field 2
+-- bs_freq_res in the order of the envelopes: in Table 4.69 FIXVAR sends the last envelope's resolution first
+abbrev pub ordered : FrameClass → List Bool → List Bool
+ordered c res = cond (byClass c false true false false) (reverse res) res
+
+-- ISO/IEC 14496-3, Table 4.69: what follows the counts is the same in the three classes: leading lengths, trailing lengths, bs_pointer, bs_freq_res
+unfoldable pub behindCounts : FrameClass → ℕ → ℕ → ℕ → ℕ → Reader Grid
+behindCounts c b0 b1 j k = do
+  rel0 ← lengths j
   rel1 ← lengths k
-  p ← field (ptrBits (k + 1))
-  res ← flags (k + 1)
-  pure (received FixVar (reverse res) 0 b1 [] rel1 p)
+  p ← field (ptrBits (j + k + 1))
+  res ← flags (j + k + 1)
+  pure (received c (ordered c res) b0 b1 rel0 rel1 p)
 
+-- FIXVAR: the border and the count of the trailing side, then what follows the counts
+unfoldable pub fixVar : Reader Grid
+fixVar = do b1 ← field 2; k ← field 2; behindCounts FixVar 0 b1 0 k
+
+-- VARFIX: the border and the count of the leading side, then the same
 unfoldable pub varFix : Reader Grid
-varFix = do
-  b0 ← field 2
-  k ← field 2
-  rel0 ← lengths k
-  p ← field (ptrBits (k + 1))
-  res ← flags (k + 1)
-  pure (received VarFix res b0 0 rel0 [] p)
+varFix = do b0 ← field 2; k ← field 2; behindCounts VarFix b0 0 k 0
 
+-- VARVAR: both borders, both counts, which a frame must have room for, then the same
 unfoldable pub varVar : Reader Grid
 varVar = do
   b0 ← field 2
   b1 ← field 2
   j ← field 2
   k ← field 2
-  n ← counted (leb (j + k + 1) 5) (j + k + 1)
-  rel0 ← lengths j
-  rel1 ← lengths k
-  p ← field (ptrBits n)
-  res ← flags n
-  pure (received VarVar res b0 b1 rel0 rel1 p)
+  _ ← counted (leb (j + k + 1) 5) (j + k + 1)
+  behindCounts VarVar b0 b1 j k
 
+-- sbr_grid(): bs_frame_class, then the fields of that class
 unfoldable pub sbrGrid : Reader Grid
 sbrGrid = do
   c ← field 2

@@ -13,8 +13,8 @@ ghost use lib.ListN.{replicate};
 ghost use Rattle.bits.specs.Bits.{bitAt, bitsOf};
 ghost use Rattle.sbr_grid.specs.Refusals.{refused};
 ghost use Rattle.sbr_grid.specs.Grid.{byClass, noiseOf, first};
-ghost use Rattle.sbr_parse.specs.Syntax.{sbrGrid, fixFix, fixVar, varFix, varVar};
-ghost use Rattle.sbr_parse.specs.Parse.{Bits, parsedOf, held, Paired, twosOf, ordered, behindCounts};
+ghost use Rattle.sbr_parse.specs.Syntax.{ordered, behindCounts, sbrGrid, fixFix, fixVar, varFix, varVar};
+ghost use Rattle.sbr_parse.specs.Parse.{Bits, parsedOf, held, Paired, twosOf};
 
 // A record, with the number of bits that are left.
 pub struct Parsed {

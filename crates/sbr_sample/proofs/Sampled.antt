@@ -11,7 +11,7 @@ use Rattle.sbr_grid.specs.Times.{slotCount}
 use Rattle.sbr_time_grid.specs.TimeGrid.{absBordLead, absBordTrail, nRelLead, nRelTrail, relBordLead, sum, listFrom, tE, rises, middleBorder, lA, countsFit, bordersFit, noiseFits, tQ, timeGrid}
 use Rattle.sbr_writer.specs.Syntax.{twos, bodyBits, gridBits}
 use Rattle.sbr_writer.specs.Write.{every, classFits, fieldsFit, writeGrid}
-use Rattle.sbr_parse.specs.Syntax.{_>>=_, flags, field, lengths, counted, fixFix, fixVar, varFix, sbrGrid}
+use Rattle.sbr_parse.specs.Syntax.{_>>=_, flags, field, lengths, counted, behindCounts, fixFix, fixVar, varFix, sbrGrid}
 use Rattle.sbr_reader.specs.Read.{meets, readGrid}
 use Rattle.sbr_qmf.specs.Qmf.{columns}
 use Rattle.sbr_floats.specs.Floats.{total, spreadIsHigh}
@@ -30,7 +30,7 @@ hands : (s : ℕ) (c : State) → HandsIn terms c (turnAt 16 s c)
 hands s c = record { slots = refl; high = refl; low = refl; previous = refl; timeSlots = refl; bytes = refl; position = refl }
 
 pub sampled : Sample
-unfolding columns total ofBits Ieee.add Ieee.mul Ieee.div Ieee.ofInt Ieee.lt Ieee.le Ieee.isNan peakOf isAttack onsetsFrom detectOnsets halvesAlike spreadIsHigh bitAt withBit getBit putBit putBits bitsAt bitsOf numFrom endOf roomFor widthFrom absBordLead absBordTrail nRelLead nRelTrail relBordLead sum listFrom tE rises middleBorder lA slotCount countsFit bordersFit noiseFits tQ timeGrid twos bodyBits gridBits every classFits fieldsFit writeGrid among drawn highFits lowFits spansFrom inside largestFrom smallestFrom isSpread someSpread electFreqRes fixfixGrid segmentsBy lateAttackVarvar fixvarSegs varfixSegs fixvarGrid varfixGrid variableGrid attackGrid plainGrid chosenGrid elect turn readGrid meets sbrGrid _>>=_ flags field lengths counted fixFix fixVar varFix
+unfolding columns total ofBits Ieee.add Ieee.mul Ieee.div Ieee.ofInt Ieee.lt Ieee.le Ieee.isNan peakOf isAttack onsetsFrom detectOnsets halvesAlike spreadIsHigh bitAt withBit getBit putBit putBits bitsAt bitsOf numFrom endOf roomFor widthFrom absBordLead absBordTrail nRelLead nRelTrail relBordLead sum listFrom tE rises middleBorder lA slotCount countsFit bordersFit noiseFits tQ timeGrid twos bodyBits gridBits every classFits fieldsFit writeGrid among drawn highFits lowFits spansFrom inside largestFrom smallestFrom isSpread someSpread electFreqRes fixfixGrid segmentsBy lateAttackVarvar fixvarSegs varfixSegs fixvarGrid varfixGrid variableGrid attackGrid plainGrid chosenGrid elect turn readGrid meets sbrGrid _>>=_ flags field lengths counted behindCounts fixFix fixVar varFix
 sampled = record {
   runs = record { from = omega arith; by = omega arith; turns = (hands 24 start, (tt, (hands 15 afterOne, (hands 10 afterTwo, (tt, tt))))) };
   sends = refl;
