@@ -59,7 +59,7 @@ pub fn read_grid(buf: &[u8], pos: usize, num_time_slots: usize, carried: Carried
     if !sbr_grid::is_slot_count(num_time_slots) {
         return refusal(Refusal::SlotCount, pos, carried);
     }
-    let window = bits::peek_bits(buf, pos);
+    let window = bits_peek::peek_bits(buf, pos);
     let parsed = sbr_parse::sbr_grid(window);
     let answer = parsed.answer;
     if let Answer::Refused(why) = answer {

@@ -26,7 +26,7 @@ pub fn write_grid(buf: &mut [u8], pos: usize, grid: SbrGrid) -> Written
         return Written::Refused(Refusal::Unwritable);
     }
     let bits = code::grid_bits(grid);
-    match bits::put_bits(buf, pos, bits.value, bits.width) {
+    match bits_put::put_bits(buf, pos, bits.value, bits.width) {
         Placed::To(next) => Written::To(next),
         Placed::NoRoom => Written::Refused(Refusal::Room),
     }

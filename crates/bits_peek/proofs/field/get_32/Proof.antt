@@ -1,9 +1,9 @@
--- `bits::field::get_32` meets its contract.
+-- `bits_peek::field::get_32` meets its contract.
 use Rattle.bits.proofs.Turns.{get-five}
 use native.Mathlib.Omega.{arith}
 use borrow.Author.Needs.{needs}
-use Rattle.bits.proofs.field.get_32.Statement.{statement}
-use Rattle.bits.proofs.field.get_32.Tie as tie
+use Rattle.bits_peek.proofs.field.get_32.Statement.{statement}
+use Rattle.bits_peek.proofs.field.get_32.Tie as tie
 
 shared-slice-read-joined : tie.Need-shared-slice-read-joined
 shared-slice-read-joined c = search needs

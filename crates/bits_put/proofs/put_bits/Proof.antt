@@ -1,15 +1,15 @@
--- `bits::put_bits` meets its contract.
+-- `bits_put::put_bits` meets its contract.
 use mathlib.Core.Path.{_≡_, sym, _∙_}
 use mathlib.Core.Bool.{true}
 use borrow.Author.Tests.{not-true, not-false}
 use lib.ListN.{length}
 use Rattle.bits.specs.Room.{endOf, roomFor}
 use Rattle.bits.proofs.Room.{room}
 use Rattle.bits.proofs.Answers.{too-wide, no-room, put-field}
 use native.Mathlib.Omega.{arith}
 use borrow.Author.Needs.{needs}
-use Rattle.bits.proofs.put_bits.Statement.{statement}
-use Rattle.bits.proofs.put_bits.Tie as tie
+use Rattle.bits_put.proofs.put_bits.Statement.{statement}
+use Rattle.bits_put.proofs.put_bits.Tie as tie
 
 returns : tie.Need-returns
 returns c = let a = c .before .before .args in too-wide (a .buf .now) (a .pos) (a .width) (a .value) (omega arith)

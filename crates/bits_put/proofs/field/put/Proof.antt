@@ -1,14 +1,14 @@
--- `bits::field::put` meets its contract. The invariant: to put what is left from here gives what is to be put in all.
+-- `bits_put::field::put` meets its contract. The invariant: to put what is left from here gives what is to be put in all.
 use mathlib.Core.Path.{_≡_, sym, _∙_}
 use Prim.Native.Nat.{_+_, _≤_}
 use lib.ListN.{length, length-set}
 use Rattle.bits.specs.Bits.{putBits, bitsOf}
 use Rattle.bits.specs.Room.{endOf}
 use Rattle.bits.proofs.Turns.{put-turn, put-done}
 use borrow.Author.Needs.{needs}
 use native.Mathlib.Omega.{arith}
-use Rattle.bits.proofs.field.put.Statement.{statement}
-use Rattle.bits.proofs.field.put.Tie as tie
+use Rattle.bits_put.proofs.field.put.Statement.{statement}
+use Rattle.bits_put.proofs.field.put.Tie as tie
 
 abbrev Inv-loop : tie.InvT-loop
 Inv-loop buf₀ pos value width at₀ k₀ buf at k =

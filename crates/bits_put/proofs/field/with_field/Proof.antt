@@ -1,11 +1,11 @@
--- `bits::field::with_field` meets its contract.
+-- `bits_put::field::with_field` meets its contract.
 use native.Mathlib.Nat.{mod-lt, lt-of-lt-of-le}
 use lib.Pow.{pow-pos}
 use Rattle.bits.proofs.Bytes.{Field, field-fits}
 use native.Mathlib.Omega.{arith}
 use borrow.Author.Needs.{needs}
-use Rattle.bits.proofs.field.with_field.Statement.{statement}
-use Rattle.bits.proofs.field.with_field.Tie as tie
+use Rattle.bits_put.proofs.field.with_field.Statement.{statement}
+use Rattle.bits_put.proofs.field.with_field.Tie as tie
 
 -- every sum and product here fits
 facts : (c : tie.After-pow23) → let a = c .before .before .before .args in Field (a .x) (a .k) (a .n) (a .v)

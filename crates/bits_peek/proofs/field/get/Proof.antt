@@ -1,15 +1,15 @@
--- `bits::field::get` meets its contract. The invariant: the number so far, with the bits that are left, is the number of them all.
-use mathlib.Core.Path.{_≡_, refl}
+-- `bits_peek::field::get` meets its contract. The invariant: the number so far, with the bits that are left, is the number of them all.
+use mathlib.Core.Path.{_≡_, refl, sym, _∙_}
 use Prim.Native.Nat.{ℕ, _+_, _*_, _^_, _≤_, _<_, _-_}
 use native.Mathlib.Nat.{sub-self, sub-zero, mod-lt, lt-of-lt-of-le}
 use lib.Pow.{pow-pos, pow-mono}
 use Rattle.bits.specs.Bits.{bitsAt, numFrom, numOf}
 use Rattle.bits.specs.Room.{endOf}
 use Rattle.bits.proofs.Turns.{get-turn, get-done, grows}
 use borrow.Author.Needs.{needs}
 use native.Mathlib.Omega.{arith}
-use Rattle.bits.proofs.field.get.Statement.{statement}
-use Rattle.bits.proofs.field.get.Tie as tie
+use Rattle.bits_peek.proofs.field.get.Statement.{statement}
+use Rattle.bits_peek.proofs.field.get.Tie as tie
 
 abbrev Inv-loop : tie.InvT-loop
 Inv-loop buf pos width at₀ k₀ v₀ at k v =
@@ -78,7 +78,8 @@ loop-again c =
       omega arith,
       omega arith,
       grown (c .before .before) (c .field-of .result) (small c),
-      cc (get-turn (a .buf .now) (s .v) (s .at) n (s .k) (omega arith) (omega arith)),
+      rw (c .field-of .ensures, c .before .before .pow2 .ensures, c .before .before .before .below .ensures)
+          (sym (get-turn (a .buf .now) (s .v) (s .at) n (s .k) (omega arith) (omega arith)) ∙ s .inv .3),
     )
 
 returns : tie.Need-returns Inv-loop μ-loop

@@ -1,15 +1,15 @@
--- `bits::peek_bits` meets its contract.
+-- `bits_peek::peek_bits` meets its contract.
 use mathlib.Core.Path.{_≡_, refl}
 use mathlib.Core.Logic.{⊎-elim}
 use Prim.Native.Nat.{_-_, min}
 use lib.ListN.{length}
 use Rattle.bits.specs.Bits.{bitsAt, numFrom}
 use Rattle.bits.specs.Room.{endOf}
 use Rattle.bits.proofs.Answers.{window}
 use native.Mathlib.Omega.{arith}
 use borrow.Author.Needs.{needs}
-use Rattle.bits.proofs.peek_bits.Statement.{statement}
-use Rattle.bits.proofs.peek_bits.Tie as tie
+use Rattle.bits_peek.proofs.peek_bits.Statement.{statement}
+use Rattle.bits_peek.proofs.peek_bits.Tie as tie
 
 end-of-requires : tie.Need-end-of-requires
 end-of-requires c κs = search needs

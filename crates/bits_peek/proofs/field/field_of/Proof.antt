@@ -1,8 +1,8 @@
--- `bits::field::field_of` meets its contract.
+-- `bits_peek::field::field_of` meets its contract.
 use lib.Pow.{pow-pos}
 use borrow.Author.Needs.{needs}
-use Rattle.bits.proofs.field.field_of.Statement.{statement}
-use Rattle.bits.proofs.field.field_of.Tie as tie
+use Rattle.bits_peek.proofs.field.field_of.Statement.{statement}
+use Rattle.bits_peek.proofs.field.field_of.Tie as tie
 
 pow2-requires : tie.Need-pow2-requires
 pow2-requires c κs = search needs
