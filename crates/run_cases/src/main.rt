@@ -33,58 +33,6 @@ struct Ends {
     receiver: Stepped,
 }
 
-// Borders in a number, five bits for each.
-fn borders_number(t_e: [u32; TimeGrid::MAX_BORDERS]) -> u64 {
-    let mut number = 0u64;
-    for i in 0..TimeGrid::MAX_BORDERS {
-        number = (number << 5) | (t_e[i] % 32) as u64;
-    }
-    number
-}
-
-// Noise borders in a number, five bits for each.
-fn noise_number(t_q: [u32; TimeGrid::MAX_NOISE_BORDERS]) -> u64 {
-    let mut number = 0u64;
-    for i in 0..TimeGrid::MAX_NOISE_BORDERS {
-        number = (number << 5) | (t_q[i] % 32) as u64;
-    }
-    number
-}
-
-// Resolutions in a number, a bit for each.
-fn resolutions_number(freq_res: [bool; SbrGrid::MAX_NUM_ENV]) -> u64 {
-    let mut number = 0u64;
-    for i in 0..SbrGrid::MAX_NUM_ENV {
-        number = (number << 1) | freq_res[i] as u64;
-    }
-    number
-}
-
-// The marked envelope from 1 on; 0 for none.
-fn mark_number(mark: i32) -> u64 {
-    if mark < 0 {
-        return 0;
-    }
-    case_io::whole(mark) % 7 + 1
-}
-
-// A time grid in a number: count of envelopes, borders, noise borders and mark.
-fn times_number(time: TimeGrid) -> u64 {
-    let t_e = time.t_e;
-    let t_q = time.t_q;
-    let count = (time.num_env % 8) as u64;
-    let borders = (count << 30) | borders_number(t_e);
-    (((borders << 15) | noise_number(t_q)) << 3) | mark_number(time.l_a)
-}
-
-// A frame in a number: class, resolutions and time grid. No two frames that are sent or read have the same, as their borders are below 32.
-fn frame_number(grid: SbrGrid, time: TimeGrid) -> u64 {
-    let class = grid.frame_class;
-    let freq_res = grid.freq_res;
-    let form = ((class.to_bits() as u64) << 5) | resolutions_number(freq_res);
-    (form << 51) | times_number(time)
-}
-
 // How many numbers the rows of a frame hold; MAX_ROOM + 1 where the energies are refused.
 fn rows(x: &[f64], high: &[u8], low: &[u8], grid: SbrGrid, num_time_slots: usize) -> usize {
     let mut out = [0.0; MAX_ROOM];
@@ -92,30 +40,6 @@ fn rows(x: &[f64], high: &[u8], low: &[u8], grid: SbrGrid, num_time_slots: usize
         Estimated::Count(count) => count,
         Estimated::Refused(_) => MAX_ROOM + 1,
     }
-}
-
-fn print_frame(grid: SbrGrid, time: TimeGrid, rows: usize) {
-    let class = grid.frame_class;
-    let freq_res = grid.freq_res;
-    case_io::print_class(class);
-    case_io::print_times(time);
-    case_io::print(b" / ");
-    case_io::print_resolutions(freq_res, grid.num_env);
-    case_io::print_field(b" rows ", rows as u64);
-}
-
-fn print_border(border: i32) {
-    if border < 0 {
-        case_io::print(b" border below 0");
-    } else {
-        case_io::print_field(b" border ", case_io::whole(border));
-    }
-}
-
-fn print_place(place: Place) {
-    let carried = place.carried;
-    case_io::print_field(b" at ", place.position as u64);
-    print_border(carried.border);
 }
 
 // Keeps the number of a frame that is sent, and answers how many are.
@@ -142,10 +66,10 @@ fn sent(
     let place = sending.place;
     let count = rows(x, high, low, grid, num_time_slots);
     case_io::print(b"sent ");
-    print_frame(grid, time, count);
+    run_lines::print_frame(grid, time, count);
     case_io::print_flag(b" transient ", sending.transient);
-    print_place(place);
-    let frames = keep(frame_number(grid, time), numbers, frames);
+    run_lines::print_place(place);
+    let frames = keep(run_lines::frame_number(grid, time), numbers, frames);
     Stepped { place, frames }
 }
 
@@ -213,9 +137,9 @@ fn received(
     let x = case_io::silence();
     let count = rows(&x, high, low, grid, num_time_slots);
     case_io::print(b"read ");
-    print_frame(grid, time, count);
-    print_place(place);
-    let frames = compare(frame_number(grid, time), numbers, sent, frames);
+    run_lines::print_frame(grid, time, count);
+    run_lines::print_place(place);
+    let frames = compare(run_lines::frame_number(grid, time), numbers, sent, frames);
     Stepped { place, frames }
 }
 

@@ -1,14 +1,14 @@
 use Prim.Native.Nat.{_-_}
 use borrow.Author.Needs.{needs}
 use native.Mathlib.Omega.{arith}
-use Rattle.run_cases.proofs.noise_number.Statement.{statement}
-use Rattle.run_cases.proofs.noise_number.Tie as tie
+use Rattle.run_lines.proofs.borders_number.Statement.{statement}
+use Rattle.run_lines.proofs.borders_number.Tie as tie
 
 abbrev Inv-loop : tie.InvT-loop
-Inv-loop t-q number₀ i₀ number i = Unit {0}
+Inv-loop t-e number₀ i₀ number i = Unit {0}
 
 abbrev μ-loop : tie.MeasureT-loop
-μ-loop t-q number₀ i₀ number i = 3 - i
+μ-loop t-e number₀ i₀ number i = 6 - i
 
 loop-holds : tie.Need-loop-holds Inv-loop μ-loop
 loop-holds c = tt
@@ -34,8 +34,8 @@ loop-again c = tt
 returns : tie.Need-returns Inv-loop μ-loop
 returns c = search needs
 
-pub noise-number-spec : {M : Type 1} → statement M
-noise-number-spec =
+pub borders-number-spec : {M : Type 1} → statement M
+borders-number-spec =
     tie.close
     (tie.spec
     Inv-loop
