@@ -1,6 +1,6 @@
 -- Bits of a list of bytes, the most significant bit of a byte first (document 01, "Corners", src/sbr_writer.rs).
 use mathlib.Core.Bool.{Bool, true, false}
-use mathlib.Core.List.{List, [], _∷_, _++_}
+use mathlib.Core.List.{List, [], _∷_}
 use Prim.Native.Nat.{ℕ, zero, suc, _+_, _-_, _*_, _/_, _%_, _^_}
 use lib.Dec.{eqb}
 use lib.ListN.{getD, set}

@@ -1,8 +1,8 @@
-// Fields of bits in lent bytes, most significant bit first, at any bit position: their types, and whether there is room.
+// Fields of bits in lent bytes, most significant bit first, at any bit position: whether there is room for one, putting one, looking at bits.
 ghost use mathlib.Core.Path.{_≡_};
-ghost use Rattle.bits.specs.Room.{endOf, roomFor};
+ghost use Rattle.bits.specs.Room.{endOf, roomFor, placed, afterField, windowOf};
 
-pub mod field;
+mod field;
 
 // Where a field was put.
 pub enum Placed {
@@ -38,4 +38,42 @@ pub fn has_room(len: usize, pos: usize, n: usize) -> bool
         return false;
     }
     n <= end - pos
+}
+
+// The `width` low bits of a value are put at a position; every other bit is kept.
+pub fn put_bits(buf: &mut [u8], pos: usize, value: u32, width: u32) -> Placed
+    ensures answer { λ r. ⌜ r ≡ placed (now (buf .entry)) pos width ⌝ }
+    ensures bytes { λ _. ⌜ now (buf .exit) ≡ afterField (now (buf .entry)) pos width value ⌝ }
+{
+    if 32 < width {
+        return Placed::NoRoom;
+    }
+    let n = width as usize;
+    if !has_room(buf.len(), pos, n) {
+        return Placed::NoRoom;
+    }
+    field::put(buf, pos, value, width);
+    Placed::To(pos + n)
+}
+
+// The bits from a position on, as many as there are and at most 32.
+pub fn peek_bits(buf: &[u8], pos: usize) -> Window
+    ensures { λ r. ⌜ r ≡ windowOf (now (buf .entry)) pos ⌝ }
+{
+    let end = end_of(buf.len());
+    if end <= pos {
+        return Window { value: 0, width: 0 };
+    }
+    let left = end - pos;
+    if 40 <= left {
+        return Window {
+            value: field::get_32(buf, pos),
+            width: 32,
+        };
+    }
+    let width: u32 = if left < 32 { left as u32 } else { 32 };
+    Window {
+        value: field::get(buf, pos, width),
+        width,
+    }
 }

@@ -3,7 +3,7 @@ use mathlib.Core.Path.{_≡_, sym, ap, _∙_}
 use mathlib.Core.Bool.{Bool, true, false, not}
 use Prim.Native.Nat.{ℕ}
 use borrow.Author.Tests.{not-true, not-false}
-use Rattle.sbr_grid.specs.declared.Refusal.the-variants.{Unwritable}
+use Rattle.sbr_grid.specs.declared.Refusal.the-variants.{Record}
 use Rattle.sbr_grid.specs.Refusals.{Outcome, refused}
 use Rattle.sbr_grid.specs.Grid.{viewOf, recordOf, Grid}
 use Rattle.sbr_grid.specs.Times.{slotCount}
@@ -12,7 +12,7 @@ use Rattle.sbr_form.specs.Handed.{formedOf}
 use Rattle.c_bits.specs.Calls.{forming, slotted}
 
 -- what says that nothing was formed is refused
-pub not-formed : {A : Type 0} (b ok : Bool) (o : Outcome A) → b ≡ ok → not b ≡ true → forming ok o ≡ refused Unwritable
+pub not-formed : {A : Type 0} (b ok : Bool) (o : Outcome A) → b ≡ ok → not b ≡ true → forming ok o ≡ refused Record
 not-formed b ok o k t = rw (sym k ∙ not-true b t)
 
 module _ {A : Type 0} (r : Formed) (ok : Bool) (g : Grid) (k : r ≡ formedOf ok g) (f : Grid → Outcome A) (like : (g : Grid) → f (viewOf (recordOf g)) ≡ f g) (t : not (r .«is_formed») ≡ false) where

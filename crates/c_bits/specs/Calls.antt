@@ -1,9 +1,9 @@
 -- What the calls of C for writing and time grids come to: what they refuse before their own refusals, and what they are given where they are answered.
-use mathlib.Core.Bool.{Bool, cond}
+use mathlib.Core.Bool.{Bool}
 use mathlib.Core.List.{List, []}
 use Prim.Native.Nat.{ℕ}
-use Rattle.sbr_grid.specs.declared.Refusal.the-variants.{SlotCount, Unwritable}
-use Rattle.sbr_grid.specs.Refusals.{Outcome, refused}
+use Rattle.sbr_grid.specs.declared.Refusal.the-variants.{SlotCount, Record}
+use Rattle.sbr_grid.specs.Refusals.{Outcome, unless}
 use Rattle.sbr_grid.specs.Times.{Times, slotCount}
 use Rattle.sbr_time_grid.specs.TimeGrid.{timeGrid}
 use Rattle.sbr_writer.specs.Write.{Wrote, writeGrid}
@@ -12,10 +12,10 @@ use Rattle.sbr_form.specs.Handed.{gridFrom, formed, formable}
 
 -- a call for which ok says that all can be formed: 5, then its own refusals; where it has a slot count, 1 before
 abbrev pub forming : {A : Type 0} → Bool → Outcome A → Outcome A
-forming ok o = cond ok o (refused Unwritable)
+forming ok o = unless ok Record o
 
 abbrev pub slotted : {A : Type 0} → ℕ → Bool → Outcome A → Outcome A
-slotted n ok o = cond (slotCount n) (forming ok o) (refused SlotCount)
+slotted n ok o = unless (slotCount n) SlotCount (forming ok o)
 
 -- writing: 5 for what can't be formed, then as `writeGrid`
 abbrev pub writeCall : Handed → List ℕ → List ℕ → List ℕ → List ℕ → ℕ → Outcome Wrote

@@ -35,7 +35,7 @@ pub fn write_grid(
     };
     let formed = sbr_form::form_record(handed, freq_res, rel_bord_0, rel_bord_1);
     if !formed.is_formed {
-        return Refusal::Unwritable.number();
+        return Refusal::Record.number();
     }
     let at = *position as usize;
     match sbr_writer::write_grid(bytes, at, formed.grid) {
@@ -81,7 +81,7 @@ pub fn derive_time_grid(
     };
     let formed = sbr_form::form_borders(handed, rel_bord_0, rel_bord_1);
     if !formed.is_formed {
-        return Refusal::Unwritable.number();
+        return Refusal::Record.number();
     }
     let derived = sbr_time_grid::derive_time_grid(formed.grid, num_time_slots as usize);
     let answer = derived.answer;

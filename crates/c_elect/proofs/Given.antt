@@ -12,16 +12,15 @@ use Rattle.sbr_parse.specs.Inverse.{cleared}
 use Rattle.sbr_parse.proofs.Inverse.{reads-back}
 use Rattle.sbr_encoder.specs.declared.Election.{Election}
 use Rattle.sbr_encoder.specs.Election.{Elected, elect, electionOf}
-use Rattle.sbr_encoder.specs.Claims.{Sent}
-use Rattle.sbr_encoder.proofs.Elections.{every-election}
-use Rattle.sbr_give.specs.Given.{codeOf}
-use Rattle.sbr_give.specs.Given.{Few}
+use Rattle.sbr_encoder.specs.Electable.{Electable}
+use Rattle.sbr_encoder.proofs.EveryElection.{every-election}
+use Rattle.sbr_give.specs.Given.{codeOf, Few}
 use Rattle.sbr_give.proofs.Answers.{has-answered, Out, handed-out, RecordAt, shown, shown-record}
 use Rattle.c_elect.specs.Elections.{electionOut}
 use Rattle.c_read.proofs.Readings.{few-of}
 
 -- a record that is read back as itself has nothing to clear
-sent-clear : (n lead : ℕ) (g : Grid) → Sent n lead g → cleared g ≡ g
+sent-clear : (n lead : ℕ) (g : Grid) → Electable n lead g → cleared g ≡ g
 sent-clear n lead g s =
     let back = reads-back g [] (s .fits) in
     let self = s .reads [] in

@@ -23,7 +23,7 @@ pub fn elect_grid(
         return Refusal::SlotCount.number();
     }
     if 1 < variable_borders {
-        return Refusal::Unwritable.number();
+        return Refusal::Record.number();
     }
     let elected = sbr_encoder::elect_grid(
         samples,

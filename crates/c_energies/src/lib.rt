@@ -44,7 +44,7 @@ pub fn estimate_envelopes(
     };
     let formed = sbr_form::form_record(handed, freq_res, rel_bord_0, rel_bord_1);
     if !formed.is_formed {
-        return Refusal::Unwritable.number();
+        return Refusal::Record.number();
     }
     match sbr_envelopes::estimate_envelopes(
         samples,

@@ -2,9 +2,9 @@
 use mathlib.Core.List.{List}
 use Prim.Native.Nat.{ℕ}
 use lib.IntN.{ℤ, pos}
-use Rattle.sbr_reader.specs.Read.{Frame}
+use Rattle.sbr_reader.specs.Read.{Accepted}
 use Rattle.sbr_give.specs.Given.{recordOut, timeOut}
 
 -- a frame: the position after it, its last border, its record and its time grid
-abbrev pub frameOut : Frame → ℕ × ℤ × (List ℕ × List ℕ × List ℕ × List ℕ) × (List ℕ × List ℕ × ℤ)
+abbrev pub frameOut : Accepted → ℕ × ℤ × (List ℕ × List ℕ × List ℕ × List ℕ) × (List ℕ × List ℕ × ℤ)
 frameOut f = (f .position, pos (f .border), recordOut (f .grid), timeOut (f .time))

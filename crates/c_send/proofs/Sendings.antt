@@ -1,14 +1,17 @@
 -- What C is given of a turn that sends a frame.
 use mathlib.Core.Path.{_≡_, sym, ap, _∙_}
+use mathlib.Core.Bool.{Bool}
 use mathlib.Core.List.{List}
 use Prim.Native.Nat.{ℕ}
 use lib.IntN.{ℤ, pos}
+use lib.Ieee.{Float}
 use Rattle.bits.specs.Bits.{bitN}
 use Rattle.sbr_grid.specs.Refusals.{answered, answerOf}
+use Rattle.sbr_encoder.specs.Election.{elect}
 use Rattle.sbr_run.specs.declared.Place.{Place}
 use Rattle.sbr_run.specs.declared.Sending.{Sending}
 use Rattle.sbr_run.specs.Run.{Turn, Turned, turn, lastBorder}
-use Rattle.sbr_run.specs.Forms.{sendingOf, bytesLeft}
+use Rattle.sbr_run.specs.Place.{sendingOf, bytesLeft}
 use Rattle.sbr_run.proofs.OneFrame.{calls}
 use Rattle.sbr_give.specs.Given.{codeOf, timeOut}
 use Rattle.sbr_give.specs.Given.{Few}
@@ -42,12 +45,12 @@ module _ (t : Turn) (p : Place) (r : Sending) (l bs : List ℕ) (e : (r ≡ send
     turned-of : (a : Turned) × (turn t ≡ answered a)
     turned-of = has-answered (turn t) (sym z ∙ send-code)
 
-    -- the counts of its record are small
-    pub sent-few : Few (r .grid)
-    sent-few =
+    -- the counts of its record are small, where it is elected
+    pub sent-few : (n : ℕ) (high low : List ℕ) (x : List Float) (y : ℤ) (v : Bool) → t .chosen ≡ elect n high low x y v → Few (r .grid)
+    sent-few n high low x y v h =
         let a = turned-of in
         let c = calls t (a .0) (a .1) in
-        rw (e .0 ∙ ap (sendingOf p) (a .1), sym (c .same)) (elected-few _ _ _ _ _ _ (c .elected) (c .elects))
+        rw (e .0 ∙ ap (sendingOf p) (a .1), sym (c .same)) (elected-few n high low x y v (c .elected) (sym h ∙ c .chose))
 
     -- it is given whole
     pub has-sent : (y : ℤ) (ns fs r0 r1 te tq : List ℕ) (la : ℤ) → y ≡ r .place .carried .border → RecordAt (r .grid) ns fs r0 r1 → TimesAt (r .time) te tq la

@@ -7,7 +7,7 @@ use lib.Ieee.{Float}
 use Rattle.bits.specs.Bits.{bitN}
 use Rattle.sbr_grid.specs.Refusals.{Outcome}
 use Rattle.sbr_run.specs.Run.{Turned, turn, lastBorder}
-use Rattle.sbr_run.specs.Forms.{turnFrom}
+use Rattle.sbr_run.specs.Place.{turnFrom}
 use Rattle.sbr_give.specs.Given.{recordOut, timeOut}
 use Rattle.c_bits.specs.Calls.{slotted}
 

@@ -30,7 +30,7 @@ pub fn send_frame(
         return Refusal::SlotCount.number();
     }
     if variable_borders > 1 {
-        return Refusal::Unwritable.number();
+        return Refusal::Record.number();
     }
     let before = *border;
     let place = Place {

@@ -3,8 +3,7 @@ use mathlib.Core.Path.{_≡_, refl, ap, sym, _∙_}
 use mathlib.Core.List.{List, [], _∷_, _++_, append-assoc, append-nil}
 use Prim.Native.Nat.{ℕ, zero, suc, _+_, _-_, _≤_, _<_, min}
 use native.Mathlib.Omega.{arith}
-use native.Mathlib.Numerals.{sub-one}
-use borrow.Author.Tests.{le-leb, lt-leb, ne-eqb, eq-eqb}
+use borrow.Author.Tests.{ne-eqb, eq-eqb}
 use Rattle.sbr_attack.specs.Attack.{segmentsBy}
 
 -- the count of lengths does not matter once it is large enough

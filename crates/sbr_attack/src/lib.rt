@@ -5,9 +5,9 @@ use sbr_grid::SbrGrid;
 ghost use mathlib.Core.Path.{_≡_};
 ghost use mathlib.Core.Option.{none, some};
 ghost use mathlib.Core.List.{[], _∷_, _++_, reverse};
-ghost use Prim.Native.Nat.{ℕ, _+_, _-_, _*_, _≤_, _<_};
+ghost use Prim.Native.Nat.{_+_, _-_, _≤_, _<_};
 ghost use Rattle.sbr_grid.specs.Grid.{recordOf};
-ghost use Rattle.sbr_build.specs.Build.{lengths, varvarGrid};
+ghost use Rattle.sbr_build.specs.Build.{lengthList, varvarGrid};
 ghost use Rattle.sbr_attack.specs.Attack.{evenSegments, alignedAttack, lateAttackVarvar, tailOf, doubleAttackGrid, fixvarSegs, varfixSegs, varfixMark, fixvarGrid, varfixGrid, variableGrid, lateOf, doubleOf};
 
 pub enum LateAttack {
@@ -33,7 +33,7 @@ pub struct DoubleGrid {
 // A span as lengths of 8 and a rest.
 fn even_segments(span: u32) -> Lengths
     requires { ⌜ span ≤ 24 ⌝ }
-    ensures { λ r. ⌜ (lengths r ≡ evenSegments span) × (r .count ≤ 3) ⌝ }
+    ensures { λ r. ⌜ (lengthList r ≡ evenSegments span) × (r .count ≤ 3) ⌝ }
 {
     let mut segs = Lengths::none();
     let mut left = span;
@@ -67,7 +67,7 @@ fn not_late() -> LateGrid
 // The grid of one late onset that ends `over` slots past the frame.
 fn late_grid(lead: u32, over: u32, segs: Lengths) -> LateGrid
     requires { ⌜ (lead ≤ 3) × (over ≤ 3) × (segs .count ≤ 3) ⌝ }
-    ensures { λ r. ⌜ r ≡ lateOf (some (varvarGrid lead over (lengths segs ++ (2 ∷ [])) [] (segs .count))) ⌝ }
+    ensures { λ r. ⌜ r ≡ lateOf (some (varvarGrid lead over (lengthList segs ++ (2 ∷ [])) [] (segs .count))) ⌝ }
 {
     LateGrid {
         answer: LateAttack::Late,
@@ -136,7 +136,7 @@ fn near_double(lead: u32, over: u32, first: u32, tail: u32) -> DoubleGrid
 // The grid of two onsets, the first two lengths after the lead.
 fn far_double(lead: u32, over: u32, segs: Lengths) -> DoubleGrid
     requires { ⌜ (lead ≤ 3) × (over ≤ 3) × (segs .count ≡ 2) ⌝ }
-    ensures { λ r. ⌜ r ≡ doubleOf (some (varvarGrid lead over (lengths segs ++ (2 ∷ [])) (2 ∷ []) 2)) ⌝ }
+    ensures { λ r. ⌜ r ≡ doubleOf (some (varvarGrid lead over (lengthList segs ++ (2 ∷ [])) (2 ∷ []) 2)) ⌝ }
 {
     DoubleGrid {
         answer: DoubleAttack::Double,
@@ -177,7 +177,7 @@ pub fn double_attack_grid(s1: u32, s2: u32, lead: u32, nts: u32) -> DoubleGrid
 // The lengths from the onset to the end, last first.
 fn fixvar_segs(rest: u32) -> Lengths
     requires { ⌜ rest ≤ 16 ⌝ }
-    ensures { λ r. ⌜ (lengths r ≡ reverse (fixvarSegs rest)) × (1 ≤ r .count) × (r .count ≤ 3) ⌝ }
+    ensures { λ r. ⌜ (lengthList r ≡ reverse (fixvarSegs rest)) × (1 ≤ r .count) × (r .count ≤ 3) ⌝ }
 {
     if rest <= 2 {
         return Lengths::none().push(rest);
@@ -212,7 +212,7 @@ fn fixvar_grid(s: u32, nts: u32) -> SbrGrid
 // The lengths from the lead to the onset.
 fn varfix_segs(span: u32) -> Lengths
     requires { ⌜ span ≤ 16 ⌝ }
-    ensures { λ r. ⌜ (lengths r ≡ varfixSegs span) × (1 ≤ r .count) × (r .count ≤ 2) ⌝ }
+    ensures { λ r. ⌜ (lengthList r ≡ varfixSegs span) × (1 ≤ r .count) × (r .count ≤ 2) ⌝ }
 {
     if span <= 8 {
         return Lengths::none().push(span);

@@ -1,9 +1,9 @@
 // The tests of the band tables: document 01, refusal 3.
 ghost use mathlib.Core.Path.{_≡_};
 ghost use mathlib.Core.Bool.{true, false};
-ghost use Prim.Native.Nat.{ℕ, _+_, _-_, _≤_, _<_};
+ghost use Prim.Native.Nat.{ℕ, _-_, _≤_, _<_};
 ghost use lib.ListN.{length, getD};
-ghost use Rattle.sbr_bands.specs.Tables.{entry, top, climbs, among, drawn, highFits, lowFits, tablesFit};
+ghost use Rattle.sbr_bands.specs.Tables.{entry, climbs, among, drawn, highFits, lowFits, tablesFit};
 
 // Most bands of a column, and the largest entry of a table.
 pub const MAX_BAND: u8 = 64;

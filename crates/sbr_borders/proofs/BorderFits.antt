@@ -10,7 +10,7 @@ use borrow.Author.Tests.{leb-true}
 use lib.ListN.{length}
 use Rattle.sbr_borders.specs.declared.Fit.the-variants.{Leading, NoFit}
 use Rattle.sbr_borders.specs.Borders.{reaches, fit}
-use Rattle.sbr_borders.specs.Forms.{fitOf}
+use Rattle.sbr_borders.specs.Wanted.{fitOf}
 
 -- what is left of n at k, as one more than what is left at k + 1
 pub left : (n k : ℕ) → k < n → n - k ≡ suc (n - (k + 1))

@@ -1,5 +1,5 @@
 -- Wanted borders, their shifts, and the even lengths that reach them: `varvar_from_borders` of src/sbr_encoder.rs, document 01, "Border search".
-use mathlib.Core.Bool.{Bool, true, false, cond, _&&_, _||_}
+use mathlib.Core.Bool.{Bool, true, cond, _&&_, _||_}
 use mathlib.Core.List.{List, [], _∷_, reverse}
 use mathlib.Core.Option.{Option, none, some}
 use Prim.Native.Nat.{ℕ, zero, suc, _+_, _-_, _%_}

@@ -1,2 +1,2 @@
 pub mod Borders
-pub mod Forms
+pub mod Wanted

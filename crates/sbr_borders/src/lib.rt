@@ -3,13 +3,12 @@ use sbr_build::Lengths;
 use sbr_grid::SbrGrid;
 ghost use mathlib.Core.Path.{_≡_};
 ghost use mathlib.Core.Bool.{true, false};
-ghost use mathlib.Core.List.{[], _∷_, _++_};
-ghost use Prim.Native.Nat.{ℕ, _+_, _-_, _*_, _≤_, _<_};
-ghost use lib.ListN.{length, take, drop, getD};
-ghost use Rattle.sbr_grid.specs.Grid.{first, recordOf};
-ghost use Rattle.sbr_build.specs.Build.{lengths};
+ghost use Prim.Native.Nat.{ℕ, _+_, _-_, _≤_, _<_};
+ghost use lib.ListN.{getD};
+ghost use Rattle.sbr_grid.specs.Grid.{first};
+ghost use Rattle.sbr_build.specs.Build.{lengthList};
 ghost use Rattle.sbr_borders.specs.Borders.{shiftCount, place, price, places, prices, nextShifts, risesFrom, lastOr, leadingSteps, trailingSteps, evenOk, allEven, reaches, fit};
-ghost use Rattle.sbr_borders.specs.Forms.{wantedList, InFrame, Turning, turnList, fitOf};
+ghost use Rattle.sbr_borders.specs.Wanted.{wantedList, InFrame, ShiftsFit, shiftsOf, fitOf};
 
 // A wanted border: an onset, which may move one slot earlier, or the isolating border, which may move one slot either way.
 pub struct WantedBorder {
@@ -20,23 +19,23 @@ pub struct WantedBorder {
 // The wanted borders, the first `count` places.
 pub struct Wanted {
     pub count: usize,
-    pub border: [WantedBorder; Wanted::MAX_BORDERS],
+    pub border: [WantedBorder; Wanted::MAX_WANTED],
 }
 
 impl Wanted {
     // Most borders inside a frame.
-    pub const MAX_BORDERS: usize = SbrGrid::MAX_NUM_ENV - 1;
+    pub const MAX_WANTED: usize = SbrGrid::MAX_NUM_ENV - 1;
 }
 
 // Whether there are further shifts.
-pub enum Turn {
+pub enum Further {
     Next,
     Last,
 }
 
-pub struct Turned {
-    pub shifts: [u32; Wanted::MAX_BORDERS],
-    pub turn: Turn,
+pub struct NextShifts {
+    pub shifts: [u32; Wanted::MAX_WANTED],
+    pub further: Further,
 }
 
 // Whether some count of leading lengths reaches every border.
@@ -80,12 +79,12 @@ fn priced(b: WantedBorder, shift: u32) -> u32
 }
 
 // Where the shifts put the borders.
-pub fn borders_of(w: Wanted, shifts: [u32; Wanted::MAX_BORDERS]) -> [u32; Wanted::MAX_BORDERS]
+pub fn borders_of(w: Wanted, shifts: [u32; Wanted::MAX_WANTED]) -> [u32; Wanted::MAX_WANTED]
     requires { ⌜ InFrame w ⌝ }
     ensures { λ r. ⌜ first 0 (w .count) r ≡ places (wantedList w) (first 0 (w .count) shifts) ⌝ }
     ensures { λ r. ⌜ ((i : ℕ) → i < w .count → getD r i 0 ≤ 33) ⌝ }
 {
-    let mut out = [0u32; Wanted::MAX_BORDERS];
+    let mut out = [0u32; Wanted::MAX_WANTED];
     for i in 0..w.count {
         let b = w.border[i];
         out[i] = placed(b, shifts[i]);
@@ -94,7 +93,7 @@ pub fn borders_of(w: Wanted, shifts: [u32; Wanted::MAX_BORDERS]) -> [u32; Wanted
 }
 
 // What the shifts cost.
-pub fn cost_of(w: Wanted, shifts: [u32; Wanted::MAX_BORDERS]) -> u32
+pub fn cost_of(w: Wanted, shifts: [u32; Wanted::MAX_WANTED]) -> u32
     requires { ⌜ w .count ≤ 4 ⌝ }
     ensures { λ r. ⌜ (r ≡ prices (wantedList w) (first 0 (w .count) shifts)) × (r ≤ 8) ⌝ }
 {
@@ -107,10 +106,10 @@ pub fn cost_of(w: Wanted, shifts: [u32; Wanted::MAX_BORDERS]) -> u32
 }
 
 // The next shifts, the first border's turning fastest.
-pub fn next_shifts(w: Wanted, shifts: [u32; Wanted::MAX_BORDERS]) -> Turned
-    requires { ⌜ (w .count ≤ 4) × Turning (w .count) shifts ⌝ }
-    ensures { λ r. ⌜ turnList (w .count) r ≡ nextShifts (wantedList w) (first 0 (w .count) shifts) ⌝ }
-    ensures { λ r. ⌜ Turning (w .count) (r .shifts) ⌝ }
+pub fn next_shifts(w: Wanted, shifts: [u32; Wanted::MAX_WANTED]) -> NextShifts
+    requires { ⌜ (w .count ≤ 4) × ShiftsFit (w .count) shifts ⌝ }
+    ensures { λ r. ⌜ shiftsOf (w .count) r ≡ nextShifts (wantedList w) (first 0 (w .count) shifts) ⌝ }
+    ensures { λ r. ⌜ ShiftsFit (w .count) (r .shifts) ⌝ }
 {
     let mut next = shifts;
     for i in 0..w.count {
@@ -118,21 +117,21 @@ pub fn next_shifts(w: Wanted, shifts: [u32; Wanted::MAX_BORDERS]) -> Turned
         let up = next[i] + 1;
         if up < shift_count(b) {
             next[i] = up;
-            return Turned {
-                turn: Turn::Next,
+            return NextShifts {
+                further: Further::Next,
                 shifts: next,
             };
         }
         next[i] = 0;
     }
-    Turned {
-        turn: Turn::Last,
-        shifts: [0u32; Wanted::MAX_BORDERS],
+    NextShifts {
+        further: Further::Last,
+        shifts: [0u32; Wanted::MAX_WANTED],
     }
 }
 
 // Each of the first `count` borders is above the one before it, the first above the lead.
-pub fn rises_from(lead: u32, borders: [u32; Wanted::MAX_BORDERS], count: usize) -> bool
+pub fn rises_from(lead: u32, borders: [u32; Wanted::MAX_WANTED], count: usize) -> bool
     requires { ⌜ count ≤ 4 ⌝ }
     ensures { λ r. ⌜ r ≡ risesFrom lead (first 0 count borders) ⌝ }
 {
@@ -159,7 +158,7 @@ fn even_ok(from: u32, to: u32) -> bool
 }
 
 // The first k borders are reached from the lead by even lengths.
-fn leads_to(lead: u32, borders: [u32; Wanted::MAX_BORDERS], k: usize) -> bool
+fn leads_to(lead: u32, borders: [u32; Wanted::MAX_WANTED], k: usize) -> bool
     requires { ⌜ k ≤ 4 ⌝ }
     ensures { λ r. ⌜ r ≡ allEven (leadingSteps lead k (first 0 k borders)) ⌝ }
 {
@@ -175,7 +174,7 @@ fn leads_to(lead: u32, borders: [u32; Wanted::MAX_BORDERS], k: usize) -> bool
 }
 
 // The borders from k on are reached from the end t by even lengths.
-fn trails_to(t: u32, borders: [u32; Wanted::MAX_BORDERS], k: usize, count: usize) -> bool
+fn trails_to(t: u32, borders: [u32; Wanted::MAX_WANTED], k: usize, count: usize) -> bool
     requires { ⌜ (k ≤ count) × (count ≤ 4) ⌝ }
     ensures { λ r. ⌜ r ≡ allEven (trailingSteps t k (first 0 count borders)) ⌝ }
 {
@@ -191,7 +190,7 @@ fn trails_to(t: u32, borders: [u32; Wanted::MAX_BORDERS], k: usize, count: usize
 }
 
 // The first k borders are reached by leading lengths and the others by trailing ones.
-fn reaches(lead: u32, t: u32, k: usize, borders: [u32; Wanted::MAX_BORDERS], count: usize) -> bool
+fn reaches(lead: u32, t: u32, k: usize, borders: [u32; Wanted::MAX_WANTED], count: usize) -> bool
     requires { ⌜ (k ≤ 4) × (count ≤ 4) ⌝ }
     ensures { λ r. ⌜ r ≡ reaches lead t k (first 0 count borders) ⌝ }
 {
@@ -211,7 +210,7 @@ fn reaches(lead: u32, t: u32, k: usize, borders: [u32; Wanted::MAX_BORDERS], cou
 }
 
 // The least count of leading lengths with which every border is reached.
-pub fn fitting(lead: u32, t: u32, borders: [u32; Wanted::MAX_BORDERS], count: usize) -> Fit
+pub fn fitting(lead: u32, t: u32, borders: [u32; Wanted::MAX_WANTED], count: usize) -> Fit
     requires { ⌜ count ≤ 4 ⌝ }
     ensures { λ r. ⌜ r ≡ fitOf (fit 4 0 lead t (first 0 count borders)) ⌝ }
 {
@@ -224,7 +223,7 @@ pub fn fitting(lead: u32, t: u32, borders: [u32; Wanted::MAX_BORDERS], count: us
 }
 
 // The last of the first `count` borders.
-pub fn last_border(borders: [u32; Wanted::MAX_BORDERS], count: usize) -> u32
+pub fn last_border(borders: [u32; Wanted::MAX_WANTED], count: usize) -> u32
     requires { ⌜ (1 ≤ count) × (count ≤ 4) ⌝ }
     ensures { λ r. ⌜ ((lead : ℕ) → r ≡ lastOr lead (first 0 count borders)) ⌝ }
 {
@@ -241,12 +240,12 @@ fn less(a: u32, b: u32) -> u32
 // The lengths from the lead up through the first k borders.
 pub fn leading_lengths(
     lead: u32,
-    borders: [u32; Wanted::MAX_BORDERS],
+    borders: [u32; Wanted::MAX_WANTED],
     k: usize,
     count: usize,
 ) -> Lengths
     requires { ⌜ (k ≤ count) × (count ≤ 4) × (lead ≤ 3) × ((i : ℕ) → i < count → getD borders i 0 ≤ 33) ⌝ }
-    ensures { λ r. ⌜ (lengths r ≡ leadingSteps lead k (first 0 count borders)) × (r .count ≡ k) ⌝ }
+    ensures { λ r. ⌜ (lengthList r ≡ leadingSteps lead k (first 0 count borders)) × (r .count ≡ k) ⌝ }
 {
     let mut out = Lengths::none();
     let mut last = lead;
@@ -261,12 +260,12 @@ pub fn leading_lengths(
 // The lengths from the end t down through the borders from k on.
 pub fn trailing_lengths(
     t: u32,
-    borders: [u32; Wanted::MAX_BORDERS],
+    borders: [u32; Wanted::MAX_WANTED],
     k: usize,
     count: usize,
 ) -> Lengths
     requires { ⌜ (k ≤ count) × (count ≤ 4) × (t ≤ 33) × ((i : ℕ) → i < count → getD borders i 0 ≤ 33) ⌝ }
-    ensures { λ r. ⌜ (lengths r ≡ trailingSteps t k (first 0 count borders)) × (r .count ≡ count - k) ⌝ }
+    ensures { λ r. ⌜ (lengthList r ≡ trailingSteps t k (first 0 count borders)) × (r .count ≡ count - k) ⌝ }
 {
     let mut out = Lengths::none();
     let mut last = t;

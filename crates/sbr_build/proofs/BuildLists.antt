@@ -1,10 +1,10 @@
 -- The loop that writes even shares down, one turn and the end, and the grid of what it writes.
-use mathlib.Core.Path.{_≡_, refl, ap, sym, _∙_}
+use mathlib.Core.Path.{_≡_, sym, _∙_}
 use mathlib.Core.List.{List, [], _∷_, _++_, append-assoc, append-nil}
-use Prim.Native.Nat.{ℕ, zero, suc, _+_, _-_, _≤_, _<_, min}
+use Prim.Native.Nat.{ℕ, zero, suc, _+_, _-_, _≤_, _<_}
 use native.Mathlib.Omega.{arith}
 use native.Mathlib.Numerals.{sub-one}
-use borrow.Author.Tests.{le-leb, lt-leb, ne-eqb, eq-eqb}
+use borrow.Author.Tests.{le-leb, lt-leb}
 use lib.Dec.{leb}
 use lib.ListN.{length}
 use Rattle.sbr_grid.specs.declared.FrameClass.the-variants.{VarFix}

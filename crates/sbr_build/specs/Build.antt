@@ -1,6 +1,6 @@
 -- Grids of even envelopes, and the forms of all builders: src/sbr_encoder.rs, under its names. n is the slot count, lead the first border.
 -- Lengths and borders are whole numbers from 0 on; no builder reaches a negative one.
-use mathlib.Core.Bool.{Bool, true, false, cond}
+use mathlib.Core.Bool.{Bool, false, cond}
 use mathlib.Core.List.{List, [], _∷_, map}
 use Prim.Native.Nat.{ℕ, zero, suc, _+_, _-_, _/_, _%_, max, min}
 use lib.Dec.{leb, eqb}
@@ -11,8 +11,8 @@ use Rattle.sbr_grid.specs.Grid.{byClass, noiseOf, first, Grid, made}
 use Rattle.sbr_build.specs.declared.Lengths.{Lengths}
 
 -- the lengths of an array with a count
-abbrev pub lengths : Lengths → List ℕ
-lengths l = first 0 (l .count) (l .slots)
+abbrev pub lengthList : Lengths → List ℕ
+lengthList l = first 0 (l .count) (l .slots)
 
 -- raw_rel: the stored form of a length, halved toward zero
 abbrev pub raw : ℕ → ℕ

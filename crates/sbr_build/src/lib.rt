@@ -4,10 +4,21 @@ use sbr_grid::SbrGrid;
 ghost use mathlib.Core.Path.{_≡_};
 ghost use mathlib.Core.Bool.{false};
 ghost use mathlib.Core.List.{[], _∷_, _++_, map};
-ghost use Prim.Native.Nat.{ℕ, _+_, _-_, _*_, _≤_, _<_};
-ghost use lib.ListN.{length, replicate};
+ghost use Prim.Native.Nat.{_+_, _-_, _≤_, _<_};
+ghost use lib.ListN.{replicate};
 ghost use Rattle.sbr_grid.specs.Grid.{first, recordOf};
-ghost use Rattle.sbr_build.specs.Build.{lengths, raw, gridOf, fixfixGrid, varvarGrid, evenShare, shares, varfixPlain};
+ghost use Rattle.sbr_build.specs.Build.{lengthList, raw, gridOf, fixfixGrid, varvarGrid, evenShare, shares, varfixPlain};
+
+// The onset slots of a frame, the first `count` places.
+pub struct Onsets {
+    pub count: usize,
+    pub slot: [u32; Onsets::MAX_ONSETS],
+}
+
+impl Onsets {
+    // Most onsets that a frame's grid can give an envelope each.
+    pub const MAX_ONSETS: usize = 3;
+}
 
 // Lengths in slots, the first `count` places.
 pub struct Lengths {
@@ -17,7 +28,7 @@ pub struct Lengths {
 
 impl Lengths {
     pub fn none() -> Self
-        ensures { λ r. ⌜ (lengths r ≡ []) × (r .count ≡ 0) ⌝ }
+        ensures { λ r. ⌜ (lengthList r ≡ []) × (r .count ≡ 0) ⌝ }
     {
         Lengths {
             count: 0,
@@ -28,7 +39,7 @@ impl Lengths {
     // One more length behind the others.
     pub fn push(self, len: u32) -> Self
         requires { ⌜ (self .count < 4) × (len ≤ 255) ⌝ }
-        ensures { λ r. ⌜ (lengths r ≡ lengths self ++ (len ∷ [])) × (r .count ≡ self .count + 1) ⌝ }
+        ensures { λ r. ⌜ (lengthList r ≡ lengthList self ++ (len ∷ [])) × (r .count ≡ self .count + 1) ⌝ }
     {
         let at = self.count;
         let mut slots = self.slots;
@@ -43,7 +54,7 @@ impl Lengths {
 // Two lengths.
 pub fn two(a: u32, b: u32) -> Lengths
     requires { ⌜ (a ≤ 255) × (b ≤ 255) ⌝ }
-    ensures { λ r. ⌜ (lengths r ≡ a ∷ b ∷ []) × (r .count ≡ 2) ⌝ }
+    ensures { λ r. ⌜ (lengthList r ≡ a ∷ b ∷ []) × (r .count ≡ 2) ⌝ }
 {
     Lengths::none().push(a).push(b)
 }
@@ -58,7 +69,7 @@ fn raw_of(len: u8) -> u8
 // The stored forms of lengths; places past the count are zero.
 fn raw_rel(segs: Lengths) -> [u8; SbrGrid::MAX_REL_BORD]
     requires { ⌜ segs .count ≤ 4 ⌝ }
-    ensures { λ r. ⌜ r ≡ first 0 4 (map raw (lengths segs)) ⌝ }
+    ensures { λ r. ⌜ r ≡ first 0 4 (map raw (lengthList segs)) ⌝ }
 {
     let mut out = [0u8; SbrGrid::MAX_REL_BORD];
     for i in 0..segs.count {
@@ -101,7 +112,7 @@ pub fn grid_of(
     pointer: usize,
 ) -> SbrGrid
     requires { ⌜ («num_env» ≤ 5) × (lead ≤ 255) × (over ≤ 255) × («rel_0» .count ≤ 4) × («rel_1» .count ≤ 4) × (pointer ≤ 255) ⌝ }
-    ensures { λ r. ⌜ r ≡ recordOf (gridOf class «num_env» high lead over (lengths «rel_0») (lengths «rel_1») pointer) ⌝ }
+    ensures { λ r. ⌜ r ≡ recordOf (gridOf class «num_env» high lead over (lengthList «rel_0») (lengthList «rel_1») pointer) ⌝ }
 {
     let num_noise = if 1 < num_env { 2 } else { 1 };
     SbrGrid {
@@ -140,7 +151,7 @@ pub fn fixfix_grid(num_env: usize, high: bool) -> SbrGrid
 // A VarVar grid at low resolution from the lead to `over` slots past the frame, with envelope l_a marked.
 pub fn varvar_grid(lead: u32, over: u32, rel_0: Lengths, rel_1: Lengths, l_a: usize) -> SbrGrid
     requires { ⌜ (lead ≤ 255) × (over ≤ 255) × («rel_0» .count ≤ 4) × («rel_1» .count ≤ 4) × («rel_0» .count + «rel_1» .count ≤ 4) × («l_a» ≤ «rel_0» .count + «rel_1» .count + 2) ⌝ }
-    ensures { λ r. ⌜ r ≡ recordOf (varvarGrid lead over (lengths «rel_0») (lengths «rel_1») «l_a») ⌝ }
+    ensures { λ r. ⌜ r ≡ recordOf (varvarGrid lead over (lengthList «rel_0») (lengthList «rel_1») «l_a») ⌝ }
 {
     let num_env = rel_0.count + rel_1.count + 1;
     grid_of(
@@ -174,7 +185,7 @@ fn share(left: u32, remaining: u32) -> u32
 // The lengths that num_env envelopes write down of `span` slots.
 fn shared(num_env: usize, span: u32) -> Lengths
     requires { ⌜ (1 ≤ «num_env») × («num_env» ≤ 4) ⌝ }
-    ensures { λ r. ⌜ (lengths r ≡ shares «num_env» span) × (r .count < «num_env») ⌝ }
+    ensures { λ r. ⌜ (lengthList r ≡ shares «num_env» span) × (r .count < «num_env») ⌝ }
 {
     let mut rel = Lengths::none();
     let mut left = span;

@@ -2,7 +2,7 @@
 use mathlib.Core.Path.{_≡_, refl, sym, ap, _∙_}
 use mathlib.Core.Bool.{Bool, true}
 use mathlib.Core.List.{List, [], _∷_}
-use Prim.Native.Nat.{ℕ, zero, suc, _+_, _<_}
+use Prim.Native.Nat.{ℕ, zero, suc, _+_}
 use native.Mathlib.Omega.{arith}
 use borrow.Author.Tests.{lt-ltb}
 use lib.Dec.{ltb}
@@ -18,17 +18,17 @@ use Rattle.sbr_grid.specs.Times.{Times, slotCount}
 use Rattle.sbr_time_grid.specs.TimeGrid.{timeGrid}
 use Rattle.sbr_writer.specs.Write.{fieldsFit, classFits}
 use Rattle.sbr_writer.proofs.Facts.{both, fields-told}
-use Rattle.sbr_qmf.specs.Qmf.{Samples as SampleAt}
+use Rattle.sbr_qmf.specs.Qmf.{SampleAt}
 use Rattle.sbr_energy.specs.Energy.{slotEnergy, slotEnergies}
 use Rattle.sbr_bands.specs.Tables.{entry, top}
 use Rattle.sbr_onsets.specs.Onsets.{halvesAlike, onsetsOf, leadOf}
 use Rattle.sbr_onsets.proofs.OnsetSame.{onsets-array, halves-array}
 use Rattle.sbr_onsets.proofs.OnsetLead.{frame-case}
-use Rattle.sbr_chosen.proofs.Every.{chosen-is-sound}
-use Rattle.sbr_search.specs.declared.Onsets.{Onsets}
-use Rattle.sbr_search.specs.Forms.{onsetList}
-use Rattle.sbr_chosen.specs.Elect.{chosenGrid}
-use Rattle.sbr_plan.proofs.PlanCases.{chosen-none, chosen-some}
+use Rattle.sbr_choice.proofs.Every.{chosen-is-sound}
+use Rattle.sbr_build.specs.declared.Onsets.{Onsets}
+use Rattle.sbr_build.specs.Cases.{onsetList}
+use Rattle.sbr_choice.specs.Choice.{chosenGrid}
+use Rattle.sbr_choice.proofs.ChoiceCases.{chosen-some}
 use Rattle.sbr_encoder.specs.declared.Election.{Election}
 use Rattle.sbr_encoder.specs.Election.{Elected, hasOnset, resolved, electedOf, electionOf}
 use Rattle.sbr_encoder.proofs.Kept.{chosen-kept}

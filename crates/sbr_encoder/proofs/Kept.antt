@@ -6,15 +6,14 @@ use Prim.Native.Nat.{ℕ}
 use lib.Dec.{T, eqb, eqb→eq}
 use lib.Ieee.Fits.{and-l, and-r}
 use Rattle.sbr_grid.specs.declared.FrameClass.{FrameClass}
-use Rattle.sbr_grid.specs.declared.FrameClass.the-variants.{FixFix, FixVar, VarFix, VarVar}
 use Rattle.sbr_grid.specs.Grid.{classCode, classOf, Grid}
 use Rattle.sbr_grid.proofs.Laws.{class-of-code}
 use Rattle.sbr_writer.specs.Write.{every, writable, fieldsFit, classFits}
 use Rattle.sbr_parse.specs.Inverse.{cleared}
-use Rattle.sbr_search.specs.Plans.{Case}
-use Rattle.sbr_chosen.specs.Elect.{chosenGrid}
-use Rattle.sbr_chosen.proofs.Computed.{chosenOf}
-use Rattle.sbr_chosen.proofs.Every.{is-true, allCases, at-case}
+use Rattle.sbr_build.specs.Cases.{Case}
+use Rattle.sbr_choice.specs.Choice.{chosenGrid}
+use Rattle.sbr_choice.proofs.Computed.{chosenOf}
+use Rattle.sbr_choice.proofs.Every.{is-true, allCases, at-case}
 use Rattle.sbr_encoder.proofs.Resolution.{Kept}
 
 -- ---- equality of grids as a test

@@ -1,6 +1,6 @@
 pub mod Resolves
 pub mod Resolution
 pub mod Kept
-pub mod Elections
+pub mod EveryElection
 pub mod Ways
 pub mod Choices

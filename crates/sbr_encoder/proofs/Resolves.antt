@@ -14,7 +14,7 @@ use Rattle.sbr_grid.specs.declared.SbrGrid.{SbrGrid}
 use Rattle.sbr_grid.specs.Grid.{byClass, first, viewOf, recordOf}
 use Rattle.sbr_grid.proofs.Laws.{lengths}
 use Rattle.sbr_grid.specs.Times.{Times}
-use Rattle.sbr_qmf.specs.Qmf.{Samples as SampleAt}
+use Rattle.sbr_qmf.specs.Qmf.{SampleAt}
 use Rattle.sbr_bands.specs.Tables.{spans}
 use Rattle.sbr_resolution.specs.Resolution.{electFreqRes}
 use Rattle.sbr_means.proofs.Spans.{mapped-length}

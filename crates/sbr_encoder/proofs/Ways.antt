@@ -1,5 +1,5 @@
 -- The ways out of `elect_grid`, one law for each.
-use mathlib.Core.Path.{_≡_, refl, sym, ap, _∙_}
+use mathlib.Core.Path.{_≡_}
 use mathlib.Core.Bool.{Bool, true, false}
 use mathlib.Core.List.{List}
 use Prim.Native.Nat.{ℕ, _≤_, _<_}
@@ -14,7 +14,7 @@ use Rattle.sbr_qmf.specs.Qmf.{columns}
 use Rattle.sbr_bands.specs.Tables.{tablesFit}
 use Rattle.sbr_envelopes.specs.Envelopes.{samplesNeeded}
 use Rattle.sbr_encoder.specs.declared.Election.{Election}
-use Rattle.sbr_encoder.specs.Election.{Elected, electedOf, elect, electionOf}
+use Rattle.sbr_encoder.specs.Election.{electedOf, elect, electionOf}
 
 module _ (n : ℕ) (high low : List ℕ) (x : List Float) (previous : ℤ) (variable : Bool) (r : Election) where
   -- the slot count is none

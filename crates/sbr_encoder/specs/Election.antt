@@ -1,5 +1,5 @@
 -- The election of a frame's grid: `elect_grid` of src/sbr_encoder.rs.
-use mathlib.Core.Bool.{Bool, true, false, cond}
+use mathlib.Core.Bool.{Bool, true, false}
 use mathlib.Core.List.{List, [], _∷_, map}
 use Prim.Native.Nat.{ℕ}
 use lib.Dec.{leb}
@@ -7,13 +7,13 @@ use lib.IntN.{ℤ}
 use lib.ListN.{length}
 use lib.Ieee.{Float}
 use Rattle.sbr_grid.specs.declared.Refusal.the-variants.{SlotCount, Samples, Tables}
-use Rattle.sbr_grid.specs.Refusals.{Outcome, answered, refused, answerOf, valueOr}
+use Rattle.sbr_grid.specs.Refusals.{Outcome, answered, answerOf, valueOr, unless}
 use Rattle.sbr_grid.specs.Grid.{byClass, Grid, made, recordOf, empty}
 use Rattle.sbr_grid.specs.Times.{Times, slotCount}
 use Rattle.sbr_time_grid.specs.TimeGrid.{timeGrid}
-use Rattle.sbr_qmf.specs.Qmf.{Samples as SampleAt, columns}
+use Rattle.sbr_qmf.specs.Qmf.{SampleAt, columns}
 use Rattle.sbr_energy.specs.Energy.{slotEnergy}
-use Rattle.sbr_chosen.specs.Elect.{chosenGrid, fallbackGrid}
+use Rattle.sbr_choice.specs.Choice.{chosenGrid, fallbackGrid}
 use Rattle.sbr_bands.specs.Tables.{entry, top, tablesFit, spans}
 use Rattle.sbr_onsets.specs.Onsets.{halvesAlike, onsetsOf, leadOf}
 use Rattle.sbr_envelopes.specs.Envelopes.{samplesNeeded}
@@ -53,11 +53,10 @@ electedOf x high low n previous variable =
 
 unfoldable pub elect : ℕ → List ℕ → List ℕ → List Float → ℤ → Bool → Outcome Elected
 elect n high low x previous variable =
-    cond (slotCount n)
-    (cond (tablesFit high low)
-    (cond (leb (samplesNeeded n) (length x)) (answered (electedOf (columns x) high low n previous variable)) (refused Samples))
-    (refused Tables))
-    (refused SlotCount)
+    unless (slotCount n) SlotCount
+    (unless (tablesFit high low) Tables
+    (unless (leb (samplesNeeded n) (length x)) Samples
+    (answered (electedOf (columns x) high low n previous variable))))
 
 -- the struct that a program hands out for it
 abbrev pub electionOf : Outcome Elected → Election

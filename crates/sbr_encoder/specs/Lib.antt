@@ -1,2 +1,2 @@
 pub mod Election
-pub mod Claims
+pub mod Electable

@@ -5,7 +5,7 @@ use sbr_grid::Refusal;
 use sbr_grid::SbrGrid;
 ghost use mathlib.Core.Path.{_≡_};
 ghost use mathlib.Core.Bool.{true};
-ghost use Prim.Native.Nat.{ℕ, _+_};
+ghost use Prim.Native.Nat.{_+_};
 ghost use lib.ListN.{getD};
 ghost use Rattle.sbr_grid.specs.Refusals.{answered, refused};
 ghost use Rattle.sbr_grid.specs.Grid.{recordOf, viewOf};
@@ -14,7 +14,7 @@ ghost use Rattle.sbr_time_grid.specs.TimeGrid.{timeGrid};
 ghost use Rattle.sbr_qmf.specs.Qmf.{columns};
 ghost use lib.Ieee.{nan};
 ghost use Rattle.sbr_energy.specs.Energy.{slotEnergies};
-ghost use Rattle.sbr_chosen.specs.Elect.{chosenGrid};
+ghost use Rattle.sbr_choice.specs.Choice.{chosenGrid};
 ghost use Rattle.sbr_bands.specs.Tables.{entry, top};
 ghost use Rattle.sbr_onsets.specs.Onsets.{halvesAlike, onsetsOf, leadOf};
 ghost use Rattle.sbr_resolution.specs.Resolution.{Ready};
@@ -79,7 +79,7 @@ fn choose(
     }
     let lead = sbr_onsets::lead_of(num_time_slots, t_e_last_prev);
     Choice {
-        grid: sbr_plan::choose_grid(onsets, variable_borders, even, lead, num_time_slots as u32),
+        grid: sbr_choice::choose_grid(onsets, variable_borders, even, lead, num_time_slots as u32),
         transient: 0 < onsets.count,
     }
 }

@@ -11,7 +11,7 @@ use lib.ListN.{length, set, getD, replicate, length-append, length-set, length-r
 use lib.Seq.{getD-at, getD-set-same, getD-set-other, getD-append-add, ext-getD}
 use lib.Ieee as Ieee
 use lib.Ieee.{Float, nan, binary64}
-use Rattle.sbr_qmf.specs.Qmf.{Samples}
+use Rattle.sbr_qmf.specs.Qmf.{SampleAt}
 use Rattle.sbr_floats.specs.Floats.{total, zero64}
 use Rattle.sbr_energy.specs.Energy.{bandSum, slotEnergy, listOf, slotEnergies}
 
@@ -26,7 +26,7 @@ unfolding total
 total-more f n sum v p q = rw (add-one n, p, q)
 
 -- a slot's energy out of the sums of its two columns
-pub slot-is : (x : Samples) (kl kh s u v : ℕ) (a b : Float) → u ≡ 2 * s + 2 → v ≡ 2 * s + 3 → a ≡ bandSum x kl kh u → b ≡ bandSum x kl kh v
+pub slot-is : (x : SampleAt) (kl kh s u v : ℕ) (a b : Float) → u ≡ 2 * s + 2 → v ≡ 2 * s + 3 → a ≡ bandSum x kl kh u → b ≡ bandSum x kl kh v
     → Ieee.add binary64 (Ieee.add binary64 zero64 a) b ≡ slotEnergy x kl kh s
 slot-is x kl kh s u v a b d e p q = rw (p, q, d, e)
 
@@ -152,5 +152,5 @@ module _ (f : ℕ → Float) where
       ])
 
 -- place s of the array of energies holds the energy of slot s
-pub energies-at : (x : Samples) (kl kh n s : ℕ) (d : Float) → s < n → getD (slotEnergies x kl kh n) s d ≡ slotEnergy x kl kh s
+pub energies-at : (x : SampleAt) (kl kh n s : ℕ) (d : Float) → s < n → getD (slotEnergies x kl kh n) s d ≡ slotEnergy x kl kh s
 energies-at x kl kh n s d h = list-at (slotEnergy x kl kh) n s _ d h

@@ -12,7 +12,7 @@ use lib.Ieee.{Float}
 use Rattle.sbr_grid.specs.Refusals.{answered}
 use Rattle.sbr_grid.specs.Grid.{first}
 use Rattle.sbr_grid.proofs.Laws.{length-first}
-use Rattle.sbr_qmf.specs.Qmf.{Samples}
+use Rattle.sbr_qmf.specs.Qmf.{SampleAt}
 use Rattle.sbr_bands.specs.Tables.{entry, Span, spansFrom, spans}
 use Rattle.sbr_means.specs.Means.{meanIn}
 use Rattle.sbr_envelopes.specs.Envelopes.{row, rows, rowsLength, numbersAfter}
@@ -60,7 +60,7 @@ length-grows fs n (suc m) h l p = elim (decLe n m) [
   | no q ↦ let e : n ≡ suc m = omega arith in rw e (omega arith)
 ]
 
-module _ (x : Samples) (high low : List ℕ) where
+module _ (x : SampleAt) (high low : List ℕ) where
   -- the rows hold as many numbers as their tables have bands
   pub rows-length : (fs : List Bool) (es : List Span) → length fs ≡ length es → length (rows x high low fs es) ≡ rowsLength fs (length high - 1) (length low - 1)
   unfolding rows rowsLength
@@ -78,7 +78,7 @@ module _ (x : Samples) (high low : List ℕ) where
   rows-end (g ∷ fs) [] f e n = absurd (omega arith)
   rows-end (g ∷ fs) (d ∷ es) f e n = rw (rows-end fs es f e (omega arith), append-assoc)
 
-module _ (x : Samples) (high low : List ℕ) (fr : List Bool) (t : List ℕ) where
+module _ (x : SampleAt) (high low : List ℕ) (fr : List Bool) (t : List ℕ) where
   -- the rows of the first n envelopes
   abbrev pub rowsTo : ℕ → List Float
   rowsTo n = rows x high low (first false n fr) (spansFrom t 0 n)
@@ -93,11 +93,11 @@ module _ (x : Samples) (high low : List ℕ) (fr : List Bool) (t : List ℕ) whe
       (rows-end x high low (first false n fr) (spansFrom t 0 n) (getD fr n false) _ (length-first false n fr ∙ sym (spans-length t 0 n)))
 
 -- u with the rows of the first n envelopes in its first `at` places
-pub record Filled (x : Samples) (high low : List ℕ) (fr : List Bool) (t : List ℕ) (u : List Float) (n at : ℕ) (out : List Float) : Type 0 where
+pub record Filled (x : SampleAt) (high low : List ℕ) (fr : List Bool) (t : List ℕ) (u : List Float) (n at : ℕ) (out : List Float) : Type 0 where
   pub place : at ≡ rowsLength (first false n fr) (length high - 1) (length low - 1)
   pub numbers : out ≡ rowsTo x high low fr t n ++ drop at u
 
-module _ (x : Samples) (high low : List ℕ) (fr : List Bool) (t : List ℕ) (u : List Float) where
+module _ (x : SampleAt) (high low : List ℕ) (fr : List Bool) (t : List ℕ) (u : List Float) where
   -- no envelope yet
   pub filled-none : Filled x high low fr t u 0 0 u
   unfolding rows rowsLength

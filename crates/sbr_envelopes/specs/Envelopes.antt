@@ -6,11 +6,11 @@ use lib.Dec.{leb}
 use lib.ListN.{length, drop}
 use lib.Ieee.{Float}
 use Rattle.sbr_grid.specs.declared.Refusal.the-variants.{SlotCount, Samples, Tables, Room}
-use Rattle.sbr_grid.specs.Refusals.{Outcome, answered, refused, valueOr}
+use Rattle.sbr_grid.specs.Refusals.{Outcome, answered, refused, valueOr, unless}
 use Rattle.sbr_grid.specs.Grid.{Grid}
 use Rattle.sbr_grid.specs.Times.{Times, slotCount}
 use Rattle.sbr_time_grid.specs.TimeGrid.{timeGrid}
-use Rattle.sbr_qmf.specs.Qmf.{Samples as SampleAt, columns}
+use Rattle.sbr_qmf.specs.Qmf.{SampleAt, columns}
 use Rattle.sbr_bands.specs.Tables.{tablesFit, Span, spans}
 use Rattle.sbr_means.specs.Means.{meanIn}
 use Rattle.sbr_envelopes.specs.declared.Estimated.{Estimated}
@@ -37,7 +37,7 @@ rowsLength (f ∷ fs) highBands lowBands = cond f highBands lowBands + rowsLengt
 
 -- the rows, where there is room for as many numbers
 abbrev pub fitted : ℕ → List Float → Outcome (List Float)
-fitted room es = cond (leb (length es) room) (answered es) (refused Room)
+fitted room es = unless (leb (length es) room) Room (answered es)
 
 abbrev pub rowsOf : SampleAt → List ℕ → List ℕ → Grid → ℕ → Outcome Times → Outcome (List Float)
 rowsOf x high low g room (answered t) = fitted room (rows x high low (g .freqRes) (spans (t .tE)))
@@ -45,11 +45,10 @@ rowsOf x high low g room (refused e) = refused e
 
 unfoldable pub energies : ℕ → List ℕ → List ℕ → List Float → Grid → ℕ → Outcome (List Float)
 energies n high low x g room =
-    cond (slotCount n)
-    (cond (tablesFit high low)
-    (cond (leb (samplesNeeded n) (length x)) (rowsOf (columns x) high low g room (timeGrid n g)) (refused Samples))
-    (refused Tables))
-    (refused SlotCount)
+    unless (slotCount n) SlotCount
+    (unless (tablesFit high low) Tables
+    (unless (leb (samplesNeeded n) (length x)) Samples
+    (rowsOf (columns x) high low g room (timeGrid n g))))
 
 -- the enum that a program hands out for it, and the numbers after: those past the rows, and all after a refusal, as they were
 abbrev pub estimatedOf : Outcome (List Float) → Estimated

@@ -5,7 +5,7 @@ use mathlib.Core.List.{List}
 use Prim.Native.Nat.{ℕ, _≤_}
 use native.Mathlib.Omega.{arith}
 use lib.ListN.{length}
-use Rattle.sbr_grid.specs.declared.Refusal.the-variants.{SlotCount, Unwritable, TimeGrid}
+use Rattle.sbr_grid.specs.declared.Refusal.the-variants.{SlotCount, Record, TimeGrid}
 use Rattle.sbr_grid.specs.Refusals.{refused}
 use Rattle.sbr_grid.specs.Grid.{viewOf, recordOf, Grid, numEnv}
 use Rattle.sbr_grid.proofs.Laws.{view-record, lengths}
@@ -36,14 +36,14 @@ module _ {X : Type 0} (f : Grid → X) (x : X) (t : Grid → Bool) (within : (g 
   same g = same-by g _ _ refl refl
 
 -- the writer refuses a grid whose fields don't fit
-write-else : (l : List ℕ) (p : ℕ) (g : Grid) → fieldsFit g ≡ false → writeGrid l p g ≡ refused Unwritable
+write-else : (l : List ℕ) (p : ℕ) (g : Grid) → fieldsFit g ≡ false → writeGrid l p g ≡ refused Record
 unfolding writeGrid
 write-else l p g e = rw e
 
 -- a grid is written alike from its record
 pub write-same : (l : List ℕ) (p : ℕ) (g : Grid) → writeGrid l p (viewOf (recordOf g)) ≡ writeGrid l p g
 write-same l p g =
-    same (writeGrid l p) (refused Unwritable) fieldsFit (λ g e. let t = fields-told g e in record { env = t .most; rel0 = t .rel0; rel1 = t .rel1 }) (write-else l p) g
+    same (writeGrid l p) (refused Record) fieldsFit (λ g e. let t = fields-told g e in record { env = t .most; rel0 = t .rel0; rel1 = t .rel1 }) (write-else l p) g
 
 -- a grid whose counts don't fit is refused by the slot count, or has no time grid
 pub time-else : (n : ℕ) (g : Grid) → countsFit g ≡ false → timeGrid n g ≡ cond (slotCount n) (refused TimeGrid) (refused SlotCount)

@@ -8,7 +8,7 @@ use lib.IntN.{ℤ}
 use Rattle.bits.specs.Bits.{bitN}
 use Rattle.sbr_grid.specs.declared.SbrGrid.{SbrGrid}
 use Rattle.sbr_grid.specs.declared.Refusal.{Refusal}
-use Rattle.sbr_grid.specs.declared.Refusal.the-variants.{SlotCount, Samples, Tables, Room, Unwritable, TimeGrid as NoTimes, BitsEnd, EnvelopeCount, Chain}
+use Rattle.sbr_grid.specs.declared.Refusal.the-variants.{SlotCount, Samples, Tables, Room, Record, TimeGrid as NoTimes, BitsEnd, EnvelopeCount, Chain}
 use Rattle.sbr_grid.specs.Refusals.{Outcome, answered, refused, numberOf, answerOf}
 use Rattle.sbr_grid.specs.Grid.{first, viewOf, recordOf, Grid}
 use Rattle.sbr_grid.proofs.Laws.{lengths}
@@ -21,7 +21,7 @@ numbered SlotCount h = omega arith
 numbered Samples h = omega arith
 numbered Tables h = omega arith
 numbered Room h = omega arith
-numbered Unwritable h = omega arith
+numbered Record h = omega arith
 numbered NoTimes h = omega arith
 numbered BitsEnd h = omega arith
 numbered EnvelopeCount h = omega arith

@@ -1,14 +1,11 @@
 -- The pointer's width: `ptrBits` is the logarithm of n + 1 rounded up, and the program's table has it for 1 to 5.
 use mathlib.Core.Path.{_≡_, refl}
-use mathlib.Core.Bool.{Bool, true, false}
-use mathlib.Core.List.{List, [], _∷_}
+use mathlib.Core.List.{[], _∷_}
 use Prim.Native.Nat.{ℕ, zero, suc, _+_, _-_, _^_, _≤_, _<_}
 use native.Mathlib.Omega.{arith}
-use native.Mathlib.Nat.{pow-suc, add-suc, suc-add, lt-of-not-le}
-use native.Mathlib.Numerals.{add-one}
+use native.Mathlib.Nat.{pow-suc, add-suc, suc-add}
 use native.Mathlib.Decide.{decLe}
 use borrow.Author.Tests.{le-leb, lt-leb}
-use lib.Dec.{leb}
 use lib.ListN.{getD}
 use Rattle.sbr_grid.specs.Grid.{widthFrom, ptrBits, CeilLog, PointerWidth, tableWidth}
 
@@ -39,8 +36,8 @@ pow-above zero = omega arith
 pow-above (suc n) = omega (arith, pow-above n, pow-suc 2 n)
 
 -- ptrBits n is ceil(log2(n + 1))
-pub ptr-bits-log : PointerWidth
-ptr-bits-log n = width-from n 0 n (λ j l. absurd (omega arith)) (rw (native.Mathlib.Nat.zero-add) (pow-above n))
+pub pointer-width : PointerWidth
+pointer-width n = width-from n 0 n (λ j l. absurd (omega arith)) (rw (native.Mathlib.Nat.zero-add) (pow-above n))
 
 pub width-none : (n : ℕ) → n ≡ 0 → 0 ≡ tableWidth n
 unfolding tableWidth

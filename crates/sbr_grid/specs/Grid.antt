@@ -1,10 +1,10 @@
 -- The grid record: its classes, the view that has only the places in use, and the record of a view.
 -- From ISO/IEC 14496-3 Table 4.69 and document 01, "Corners, file by file".
-use mathlib.Core.Bool.{Bool, true, false, cond, _&&_}
+use mathlib.Core.Bool.{Bool, false, cond, _&&_}
 use mathlib.Core.List.{List, [], _∷_}
 use Prim.Native.Nat.{ℕ, zero, suc, _+_, _^_, _≤_}
 use lib.Dec.{leb, ltb}
-use lib.ListN.{length, replicate}
+use lib.ListN.{length}
 use Rattle.sbr_grid.specs.declared.FrameClass.{FrameClass}
 use Rattle.sbr_grid.specs.declared.FrameClass.the-variants.{FixFix, FixVar, VarFix, VarVar}
 use Rattle.sbr_grid.specs.declared.SbrGrid.{SbrGrid}

@@ -1,7 +1,8 @@
 -- Refusals and their numbers: document 01, "Refusals by who causes them".
+use mathlib.Core.Bool.{Bool, cond}
 use Prim.Native.Nat.{ℕ}
 use Rattle.sbr_grid.specs.declared.Refusal.{Refusal}
-use Rattle.sbr_grid.specs.declared.Refusal.the-variants.{SlotCount, Samples, Tables, Room, Unwritable, TimeGrid, BitsEnd, EnvelopeCount, Chain}
+use Rattle.sbr_grid.specs.declared.Refusal.the-variants.{SlotCount, Samples, Tables, Room, Record, TimeGrid, BitsEnd, EnvelopeCount, Chain}
 use Rattle.sbr_grid.specs.declared.Answer.{Answer}
 use Rattle.sbr_grid.specs.declared.Answer.the-variants.{Given, Refused}
 
@@ -10,7 +11,7 @@ numberOf SlotCount = 1
 numberOf Samples = 2
 numberOf Tables = 3
 numberOf Room = 4
-numberOf Unwritable = 5
+numberOf Record = 5
 numberOf TimeGrid = 6
 numberOf BitsEnd = 7
 numberOf EnvelopeCount = 8
@@ -21,7 +22,11 @@ pub data Outcome (A : Type 0) : Type 0 where
   answered : A → Outcome A
   refused : Refusal → Outcome A
 
--- the enum that a program hands out for it
+-- a test that a call makes before what follows: where it is not passed, the call is refused by e
+abbrev pub unless : {A : Type 0} → Bool → Refusal → Outcome A → Outcome A
+unless passed e o = cond passed o (refused e)
+
+-- the enum that a program hands out for an outcome
 abbrev pub answerOf : {A : Type 0} → Outcome A → Answer
 answerOf (answered a) = Given
 answerOf (refused e) = Refused e

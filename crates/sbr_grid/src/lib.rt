@@ -1,6 +1,6 @@
 // The grid record of src/sbr_grid.rs, with its limits, the record of its time grid, and the refusals of every call.
 ghost use mathlib.Core.Path.{_≡_};
-ghost use Prim.Native.Nat.{ℕ, _+_, _≤_, _<_};
+ghost use Prim.Native.Nat.{_+_, _<_};
 ghost use Rattle.sbr_grid.specs.Refusals.{numberOf};
 ghost use Rattle.sbr_grid.specs.Grid.{classCode, classOf, empty, tableWidth};
 ghost use Rattle.sbr_grid.specs.Times.{slotCount, emptyTime};
@@ -123,8 +123,8 @@ pub enum Refusal {
     Tables,
     // Too little room for what is to be written.
     Room,
-    // A record that sbr_grid() can't carry.
-    Unwritable,
+    // A record that sbr_grid() can't carry, or that can't be formed of what C hands in.
+    Record,
     // A record that has no time grid.
     TimeGrid,
     // The bits end before a field is complete.
@@ -145,7 +145,7 @@ impl Refusal {
             Refusal::Samples => 2,
             Refusal::Tables => 3,
             Refusal::Room => 4,
-            Refusal::Unwritable => 5,
+            Refusal::Record => 5,
             Refusal::TimeGrid => 6,
             Refusal::BitsEnd => 7,
             Refusal::EnvelopeCount => 8,

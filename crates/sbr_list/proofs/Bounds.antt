@@ -23,7 +23,7 @@ use Rattle.sbr_time_grid.proofs.Marks.{noise-meet}
 use Rattle.sbr_time_grid.proofs.Answers.{slots-few}
 use Rattle.sbr_time_grid.proofs.Ends.{time-passes, time-ends}
 use Rattle.sbr_parse.specs.Syntax.{sbrGrid}
-use Rattle.sbr_reader.specs.Read.{Frame, isBorder, meets, timed, parsed, readGrid}
+use Rattle.sbr_reader.specs.Read.{Accepted, isBorder, meets, timed, parsed, readGrid}
 use Rattle.sbr_writer.proofs.Facts.{fields-told}
 use Rattle.sbr_reader.proofs.Frames.{frame-writes}
 use Rattle.sbr_list.specs.Line.{Small, ShortTimes, Short}
@@ -125,35 +125,35 @@ passes true x e h = h
 passes false x e h = let z : _≡_ {A = ℕ} 0 1 = cc in absurd (omega arith)
 
 -- the time grid of a frame is that of its record
-meets-told : (n : ℕ) (b : ℤ) (g : Grid) (q : ℕ) (t : Times) (f : Frame) → meets n b g q t ≡ answered f → (g ≡ f .grid) × (t ≡ f .time)
+meets-told : (n : ℕ) (b : ℤ) (g : Grid) (q : ℕ) (t : Times) (f : Accepted) → meets n b g q t ≡ answered f → (g ≡ f .grid) × (t ≡ f .time)
 unfolding meets
 meets-told n b g q t f h =
     let e = passes (isBorder b (getD (t .tE) 0 0 + n)) _ _ h in
     (ap (valueOr (λ x. x .grid) g) e, ap (valueOr (λ x. x .time) t) e)
 
-timed-told : (n : ℕ) (b : ℤ) (g : Grid) (q : ℕ) (o : Outcome Times) (f : Frame) → timeGrid n g ≡ o → timed n b g q o ≡ answered f
+timed-told : (n : ℕ) (b : ℤ) (g : Grid) (q : ℕ) (o : Outcome Times) (f : Accepted) → timeGrid n g ≡ o → timed n b g q o ≡ answered f
     → timeGrid n (f .grid) ≡ answered (f .time)
 timed-told n b g q (answered t) f e h = let m = meets-told n b g q t f h in rw (← (m .0), ← (m .1)) e
 timed-told n b g q (refused x) f e h = let z : _≡_ {A = ℕ} 0 1 = cc in absurd (omega arith)
 
-parsed-told : (n : ℕ) (b : ℤ) (p m : ℕ) (o : Outcome (Grid × List Bool)) (f : Frame) → parsed n b p m o ≡ answered f
+parsed-told : (n : ℕ) (b : ℤ) (p m : ℕ) (o : Outcome (Grid × List Bool)) (f : Accepted) → parsed n b p m o ≡ answered f
     → timeGrid n (f .grid) ≡ answered (f .time)
 parsed-told n b p m (answered r) f h = timed-told n b (r .0) (p + (m - length (r .1))) (timeGrid n (r .0)) f refl h
 parsed-told n b p m (refused x) f h = let z : _≡_ {A = ℕ} 0 1 = cc in absurd (omega arith)
 
-read-told : (n : ℕ) (b : ℤ) (p : ℕ) (bs : List Bool) (f : Frame)
+read-told : (n : ℕ) (b : ℤ) (p : ℕ) (bs : List Bool) (f : Accepted)
     → cond (slotCount n) (parsed n b p (length bs) (sbrGrid bs)) (refused SlotCount) ≡ answered f → timeGrid n (f .grid) ≡ answered (f .time)
 read-told n b p bs f e = parsed-told n b p (length bs) (sbrGrid bs) f (passes (slotCount n) _ _ e)
 
 -- what a frame that was read shows
-pub record Shows (i : ℕ) (f : Frame) : Type 0 where
+pub record Shows (i : ℕ) (f : Accepted) : Type 0 where
   pub short : Short i f
   pub first : 0 < length (f .time .tE)
   pub firstNoise : 0 < length (f .time .tQ)
   pub rel0 : length (f .grid .relBord0) ≤ 4
   pub rel1 : length (f .grid .relBord1) ≤ 4
 
-pub frame-shows : (l : List ℕ) (p n : ℕ) (b : ℤ) (f : Frame) (i : ℕ) → readGrid l p n b ≡ answered f → i < 1000 → Shows i f
+pub frame-shows : (l : List ℕ) (p n : ℕ) (b : ℤ) (f : Accepted) (i : ℕ) → readGrid l p n b ≡ answered f → i < 1000 → Shows i f
 unfolding readGrid
 frame-shows l p n b f i e h =
     let w = frame-writes l p n b f e in

@@ -12,21 +12,21 @@ use Rattle.sbr_grid.specs.Grid.{first}
 use Rattle.sbr_grid.proofs.Laws.{length-first, getD-first}
 use Rattle.sbr_list.specs.declared.text.Line.{Line}
 use Rattle.sbr_list.specs.Listing.{decimal, spaced, resolution}
-use Rattle.sbr_list.specs.Line.{lineOf, withByte, appended, Small}
+use Rattle.sbr_list.specs.Line.{lineOf, withByte, withText, Small}
 
 -- a byte behind a line
-pub appended-byte : (w : Line) (b : ℕ) → appended w (b ∷ []) ≡ withByte w b
-unfolding appended
+pub appended-byte : (w : Line) (b : ℕ) → withText w (b ∷ []) ≡ withByte w b
+unfolding withText
 appended-byte w b = refl
 
 -- a text behind another is both behind the line
-pub appended-append : (w : Line) (a b : List ℕ) → appended (appended w a) b ≡ appended w (a ++ b)
-unfolding appended
+pub appended-append : (w : Line) (a b : List ℕ) → withText (withText w a) b ≡ withText w (a ++ b)
+unfolding withText
 appended-append w [] b = refl
 appended-append w (x ∷ a) b = appended-append (withByte w x) a b
 
 -- a line behind which two texts were put, one after the other
-pub then : (v w r : Line) (a b : List ℕ) → w ≡ appended v a → r ≡ appended w b → r ≡ appended v (a ++ b)
+pub then : (v w r : Line) (a b : List ℕ) → w ≡ withText v a → r ≡ withText w b → r ≡ withText v (a ++ b)
 then v w r a b e f = rw (f, e, appended-append v a b)
 
 -- the byte behind a text that is padded
@@ -40,24 +40,24 @@ unfolding lineOf
 line-byte t b h = rw (lt-ltb (length t) 64 h, set-first 64 t b h, length-append t (b ∷ []))
 
 -- a text behind that of a line that has room for both
-line-text : (s t : List ℕ) → length s + length t ≤ 64 → appended (lineOf s) t ≡ lineOf (s ++ t)
-unfolding appended
+line-text : (s t : List ℕ) → length s + length t ≤ 64 → withText (lineOf s) t ≡ lineOf (s ++ t)
+unfolding withText
 line-text s [] h = rw append-nil
 line-text s (b ∷ t) h =
     rw (line-byte s b (omega arith), line-text (s ++ (b ∷ [])) t (omega (arith, length-append s (b ∷ [])))) (ap lineOf (append-snoc s b t))
 
 -- a text of at most 64 bytes is a line
-pub line-whole : (t : List ℕ) → length t ≤ 64 → appended (lineOf []) t ≡ lineOf t
+pub line-whole : (t : List ℕ) → length t ≤ 64 → withText (lineOf []) t ≡ lineOf t
 line-whole t h = line-text [] t (omega arith)
 
 -- one turn of a loop that appends a text byte by byte
-pub appended-next : (w r : Line) (t : List ℕ) (j d x : ℕ) → j < length t → x ≡ getD t j d → r ≡ appended w (x ∷ [])
-    → appended r (drop (j + 1) t) ≡ appended w (drop j t)
+pub appended-next : (w r : Line) (t : List ℕ) (j d x : ℕ) → j < length t → x ≡ getD t j d → r ≡ withText w (x ∷ [])
+    → withText r (drop (j + 1) t) ≡ withText w (drop j t)
 appended-next w r t j d x h e f = rw (f, e, appended-append w (getD t j d ∷ []) (drop (j + 1) t), add-one, drop-cons t j d h)
 
 -- nothing is left to append
-pub appended-done : (w : Line) (t : List ℕ) (j : ℕ) → length t ≤ j → appended w (drop j t) ≡ w
-unfolding appended
+pub appended-done : (w : Line) (t : List ℕ) (j : ℕ) → length t ≤ j → withText w (drop j t) ≡ w
+unfolding withText
 appended-done w t j h = rw (drop-of-length-le t {i = j} h)
 
 -- numbers of one, two and three digits
@@ -93,14 +93,14 @@ pub small-at : (n j : ℕ) (t : List ℕ) → Small (first 0 n t) → j < n → 
 small-at n j t s h = rw (getD-first 0 n j t h) at (s j)
 
 -- one of the first n numbers more
-pub behind-next : (w s r : Line) (t : List ℕ) (n j : ℕ) → j < n → s ≡ appended w (32 ∷ []) → r ≡ appended s (decimal (getD t j 0))
-    → appended r (behind (drop (j + 1) (first 0 n t))) ≡ appended w (behind (drop j (first 0 n t)))
+pub behind-next : (w s r : Line) (t : List ℕ) (n j : ℕ) → j < n → s ≡ withText w (32 ∷ []) → r ≡ withText s (decimal (getD t j 0))
+    → withText r (behind (drop (j + 1) (first 0 n t))) ≡ withText w (behind (drop j (first 0 n t)))
 unfolding behind
 behind-next w s r t n j h e f =
     rw (
       f,
       e,
-      appended-append (appended w (32 ∷ [])) (decimal (getD t j 0)) (behind (drop (j + 1) (first 0 n t))),
+      appended-append (withText w (32 ∷ [])) (decimal (getD t j 0)) (behind (drop (j + 1) (first 0 n t))),
       appended-append w (32 ∷ []) (decimal (getD t j 0) ++ behind (drop (j + 1) (first 0 n t))),
       add-one,
       drop-cons (first 0 n t) j 0 (omega (arith, length-first 0 n t)),
@@ -108,9 +108,9 @@ behind-next w s r t n j h e f =
     )
 
 -- all of the first n numbers are there
-pub spaced-done : (w s r : Line) (t : List ℕ) (n j : ℕ) → 0 < n → s ≡ appended w (decimal (getD t 0 0))
-    → appended r (behind (drop j (first 0 n t))) ≡ appended s (behind (drop 1 (first 0 n t))) → n ≤ j → r ≡ appended w (spaced (first 0 n t))
-unfolding appended behind
+pub spaced-done : (w s r : Line) (t : List ℕ) (n j : ℕ) → 0 < n → s ≡ withText w (decimal (getD t 0 0))
+    → withText r (behind (drop j (first 0 n t))) ≡ withText s (behind (drop 1 (first 0 n t))) → n ≤ j → r ≡ withText w (spaced (first 0 n t))
+unfolding withText behind
 spaced-done w s r t n j h e f l =
     let c = length-first 0 n t in
     rw (
@@ -123,14 +123,14 @@ spaced-done w s r t n j h e f l =
     )
 
 -- one of the first n resolutions more
-pub letter-next : (w r : Line) (t : List Bool) (n j x : ℕ) → j < n → x ≡ resolution (getD t j false) → r ≡ appended w (x ∷ [])
-    → appended r (drop (j + 1) (map resolution (first false n t))) ≡ appended w (drop j (map resolution (first false n t)))
+pub letter-next : (w r : Line) (t : List Bool) (n j x : ℕ) → j < n → x ≡ resolution (getD t j false) → r ≡ withText w (x ∷ [])
+    → withText r (drop (j + 1) (map resolution (first false n t))) ≡ withText w (drop j (map resolution (first false n t)))
 letter-next w r t n j x h e f =
     let l = first false n t in
     appended-next w r (map resolution l) j 76 x (omega (arith, length-map l resolution, length-first false n t))
     (rw (List·getD-map resolution l j false, getD-first false n j t h) e) f
 
-pub letters-done : (w : Line) (t : List Bool) (n j : ℕ) → n ≤ j → appended w (drop j (map resolution (first false n t))) ≡ w
+pub letters-done : (w : Line) (t : List Bool) (n j : ℕ) → n ≤ j → withText w (drop j (map resolution (first false n t))) ≡ w
 letters-done w t n j h =
     let l = first false n t in
     appended-done w (map resolution l) j (omega (arith, length-map l resolution, length-first false n t))

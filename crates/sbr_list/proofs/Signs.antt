@@ -15,7 +15,7 @@ use mir.ValLaws.{toZ-ofZ}
 use Rattle.sbr_grid.specs.Times.{Times}
 use Rattle.sbr_list.specs.declared.text.Line.{Line}
 use Rattle.sbr_list.specs.Listing.{decimal, signed, spaced, stroke}
-use Rattle.sbr_list.specs.Line.{appended, timesText}
+use Rattle.sbr_list.specs.Line.{withText, timesText}
 use Rattle.sbr_list.proofs.Lines.{appended-append}
 
 -- the bits of a small number are its own
@@ -77,16 +77,16 @@ plain (pos n) e = refl
 plain (negsuc n) e = let z : _≡_ {A = ℕ} 0 1 = cc in absurd (omega arith)
 
 -- a negative number behind a line, and one that is not negative
-pub signed-negative : (w s r : Line) (z : ℤ) (m : ℕ) → mag z < 100 → ltZ (toZ w32 (ofZ w32 z)) (pos 0) ≡ true → s ≡ appended w (45 ∷ [])
-    → m ≡ natAbs (toZ w32 (ofZ w32 z)) → r ≡ appended s (decimal m) → r ≡ appended w (signed z)
+pub signed-negative : (w s r : Line) (z : ℤ) (m : ℕ) → mag z < 100 → ltZ (toZ w32 (ofZ w32 z)) (pos 0) ≡ true → s ≡ withText w (45 ∷ [])
+    → m ≡ natAbs (toZ w32 (ofZ w32 z)) → r ≡ withText s (decimal m) → r ≡ withText w (signed z)
 signed-negative w s r z m h t e f g =
     rw (minus z (sign-told z true (omega arith) t), g, e, f, small-bits z (omega arith), appended-append w (45 ∷ []) (decimal (natAbs z)))
 
 pub signed-whole : (w r : Line) (z : ℤ) (m : ℕ) → mag z < 100 → ltZ (toZ w32 (ofZ w32 z)) (pos 0) ≡ false
-    → m ≡ natAbs (toZ w32 (ofZ w32 z)) → r ≡ appended w (decimal m) → r ≡ appended w (signed z)
+    → m ≡ natAbs (toZ w32 (ofZ w32 z)) → r ≡ withText w (decimal m) → r ≡ withText w (signed z)
 signed-whole w r z m h t f g = rw (plain z (sign-told z false (omega arith) t), g, f, small-bits z (omega arith))
 
 -- borders, noise borders and mark, with strokes between, behind a line
 pub times-whole : (w r : Line) (t : Times) → mag (t .lA) < 100
-    → r ≡ appended w ((((spaced (t .tE) ++ stroke) ++ spaced (t .tQ)) ++ stroke) ++ signed (toZ w32 (ofZ w32 (t .lA)))) → r ≡ appended w (timesText t)
+    → r ≡ withText w ((((spaced (t .tE) ++ stroke) ++ spaced (t .tQ)) ++ stroke) ++ signed (toZ w32 (ofZ w32 (t .lA)))) → r ≡ withText w (timesText t)
 times-whole w r t h e = simp (small-bits (t .lA) (omega arith), append-assoc) at e

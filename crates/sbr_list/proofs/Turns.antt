@@ -14,9 +14,9 @@ use Rattle.sbr_grid.specs.Refusals.{Outcome, answered, refused, answerOf}
 use Rattle.sbr_grid.specs.Grid.{first, recordOf}
 use Rattle.sbr_grid.proofs.Laws.{view-record, first-first}
 use Rattle.sbr_grid.specs.Times.{timeRecord}
+use Rattle.sbr_reader.specs.declared.FrameRead.{FrameRead}
 use Rattle.sbr_reader.specs.declared.Carried.{Carried}
-use Rattle.sbr_reader.specs.declared.Reading.{Reading}
-use Rattle.sbr_reader.specs.Read.{Frame, readGrid, readingOf}
+use Rattle.sbr_reader.specs.Read.{Accepted, readGrid, frameReadOf}
 use Rattle.sbr_list.specs.declared.text.Line.{Line}
 use Rattle.sbr_list.specs.Listing.{frameLine, refusalLine, linesFrom, listing, over}
 use Rattle.sbr_list.specs.Line.{lineOf, textOf, Short, shownOf}
@@ -25,7 +25,7 @@ use Rattle.sbr_list.proofs.Pages.{sets-append, sets-over, text-line}
 use Rattle.sbr_list.proofs.Bounds.{Shows, frame-shows}
 
 -- the lines from frame i on, where a frame is read, where it is refused, and where there is none
-lines-frame : (l : List ℕ) (n k i p : ℕ) (b : ℤ) (f : Frame) → i < k → readGrid l p n b ≡ answered f
+lines-frame : (l : List ℕ) (n k i p : ℕ) (b : ℤ) (f : Accepted) → i < k → readGrid l p n b ≡ answered f
     → linesFrom l n (k - i) i p b ≡ frameLine i f ++ linesFrom l n (k - (i + 1)) (i + 1) (f .position) (pos (f .border))
 unfolding linesFrom
 lines-frame l n k i p b f h e = let s : k - i ≡ suc (k - (i + 1)) = omega arith in rw (s, e)
@@ -58,8 +58,8 @@ unfolding lineOf
 holds w t e h = let n : w .len ≡ length t = ap (λ x. x .len) e in record { len = n; text = ap textOf e ∙ text-line t h; few = omega arith }
 
 -- what a reading that answers tells
-pub record Read (l : List ℕ) (p n : ℕ) (c : Carried) (r : Reading) (i : ℕ) : Type 0 where
-  pub frame : Frame
+pub record Read (l : List ℕ) (p n : ℕ) (c : Carried) (r : FrameRead) (i : ℕ) : Type 0 where
+  pub frame : Accepted
   pub outcome : readGrid l p n (c .border) ≡ answered frame
   pub short : Short i frame
   pub shown : shownOf (r .grid) (r .time) ≡ record { grid = frame .grid; time = frame .time; position = 0; border = 0 }
@@ -67,7 +67,7 @@ pub record Read (l : List ℕ) (p n : ℕ) (c : Carried) (r : Reading) (i : ℕ)
   pub border : r .carried .border ≡ pos (frame .border)
 
 -- the records of a frame show the frame
-shown-frame : (f : Frame) (i : ℕ) → Shows i f
+shown-frame : (f : Accepted) (i : ℕ) → Shows i f
     → shownOf (recordOf (f .grid)) (timeRecord (f .time)) ≡ record { grid = f .grid; time = f .time; position = 0; border = 0 }
 shown-frame f i s =
     let a : length (f .time .tE) - 1 + 1 ≡ length (f .time .tE) = omega (arith, s .first) in
@@ -80,7 +80,7 @@ shown-frame f i s =
       first-first 0 3 (f .time .tQ) (s .short .times .noise),
     )
 
-read-as : (l : List ℕ) (p n : ℕ) (c : Carried) (r : Reading) (i : ℕ) (o : Outcome Frame) → readGrid l p n (c .border) ≡ o → r ≡ readingOf p c o
+read-as : (l : List ℕ) (p n : ℕ) (c : Carried) (r : FrameRead) (i : ℕ) (o : Outcome Accepted) → readGrid l p n (c .border) ≡ o → r ≡ frameReadOf p c o
     → r .answer ≡ Given → i < 1000 → Read l p n c r i
 read-as l p n c r i (answered f) e h g k =
     let s = frame-shows l p n (c .border) f i e k in
@@ -94,17 +94,17 @@ read-as l p n c r i (answered f) e h g k =
     }
 read-as l p n c r i (refused x) e h g k = let z : _≡_ {A = ℕ} 0 1 = cc (ap (λ x. x .answer) h) in absurd (omega arith)
 
-pub read-given : (l : List ℕ) (p n : ℕ) (c : Carried) (r : Reading) (i : ℕ) → r ≡ readingOf p c (readGrid l p n (c .border))
+pub read-given : (l : List ℕ) (p n : ℕ) (c : Carried) (r : FrameRead) (i : ℕ) → r ≡ frameReadOf p c (readGrid l p n (c .border))
     → r .answer ≡ Given → i < 1000 → Read l p n c r i
 read-given l p n c r i h g k = read-as l p n c r i (readGrid l p n (c .border)) refl h g k
 
 -- a reading that refuses
-refused-as : (o : Outcome Frame) (e : Refusal) → answerOf o ≡ Refused e → o ≡ refused e
+refused-as : (o : Outcome Accepted) (e : Refusal) → answerOf o ≡ Refused e → o ≡ refused e
 refused-as (answered f) e h = let z : _≡_ {A = ℕ} 0 1 = cc in absurd (omega arith)
 refused-as (refused x) e h = let z : x ≡ e = cc in ap refused z
 
 -- the line that is put for a frame, and the one for a refusal
-module _ (l : List ℕ) (p n : ℕ) (c : Carried) (r : Reading) (i : ℕ) (h : Read l p n c r i) where
+module _ (l : List ℕ) (p n : ℕ) (c : Carried) (r : FrameRead) (i : ℕ) (h : Read l p n c r i) where
   pub shown-short : Short i (shownOf (r .grid) (r .time))
   shown-short =
       let s = h .short in
@@ -130,7 +130,7 @@ module _ (l : List ℕ) (n k : ℕ) (b : ℤ) (page₀ : List ℕ) where
 
   module _ (page : List ℕ) (at p : ℕ) (c : Carried) (i : ℕ) (s : Reached l n k b page₀ page at p c i) where
     -- after a frame more
-    pub reached-frame : i < k → (r : Reading) (h : Read l p n c r i) (w : Line) → Holds w (frameLine i (h .frame)) → (q : ℕ) (next : List ℕ)
+    pub reached-frame : i < k → (r : FrameRead) (h : Read l p n c r i) (w : Line) → Holds w (frameLine i (h .frame)) → (q : ℕ) (next : List ℕ)
         → q ≡ at + w .len → next ≡ sets page at (textOf w) → Reached l n k b page₀ next q (r .position) (r .carried) (i + 1)
     reached-frame d r h w t q next e f =
         let line = frameLine i (h .frame) in
@@ -152,7 +152,7 @@ module _ (l : List ℕ) (n k : ℕ) (b : ℤ) (page₀ : List ℕ) where
         let z : at + length t ≡ length (linesFrom l n k 0 0 b) = rw m at (s .long) in
         (e ∙ z, rw f ((rw m at (s .text)) ∙ sets-over page₀ (linesFrom l n k 0 0 b) (omega arith)))
 
-    pub reached-refused : i < k → k ≤ 255 → 16384 ≤ length page₀ → (r : Reading) (x : Refusal) → r ≡ readingOf p c (readGrid l p n (c .border))
+    pub reached-refused : i < k → k ≤ 255 → 16384 ≤ length page₀ → (r : FrameRead) (x : Refusal) → r ≡ frameReadOf p c (readGrid l p n (c .border))
         → r .answer ≡ Refused x → (w : Line) → Holds w (refusalLine i x) → (q : ℕ) (next : List ℕ) → q ≡ at + w .len → next ≡ sets page at (textOf w)
         → (q ≡ length (linesFrom l n k 0 0 b)) × (next ≡ over (linesFrom l n k 0 0 b) page₀)
     reached-refused d g a r x h y w t q next e f =

@@ -9,12 +9,12 @@ use lib.ListN.{length, length-append, length-map}
 use Rattle.sbr_grid.specs.declared.FrameClass.{FrameClass}
 use Rattle.sbr_grid.specs.declared.FrameClass.the-variants.{FixFix, FixVar, VarFix, VarVar}
 use Rattle.sbr_grid.specs.declared.Refusal.{Refusal}
-use Rattle.sbr_grid.specs.declared.Refusal.the-variants.{SlotCount, Samples, Tables, Room, Unwritable, TimeGrid, BitsEnd, EnvelopeCount, Chain}
+use Rattle.sbr_grid.specs.declared.Refusal.the-variants.{SlotCount, Samples, Tables, Room, Record, TimeGrid, BitsEnd, EnvelopeCount, Chain}
 use Rattle.sbr_grid.specs.Refusals.{numberOf}
-use Rattle.sbr_reader.specs.Read.{Frame}
+use Rattle.sbr_reader.specs.Read.{Accepted}
 use Rattle.sbr_list.specs.declared.text.Line.{Line}
 use Rattle.sbr_list.specs.Listing.{decimal, signed, spaced, className, resolution, stroke, frameLine, refusalLine}
-use Rattle.sbr_list.specs.Line.{lineOf, appended, Small, Short, timesText}
+use Rattle.sbr_list.specs.Line.{lineOf, withText, Small, Short, timesText}
 use Rattle.sbr_list.proofs.Lines.{line-whole, decimal-one, decimal-two, decimal-three, behind, spaced-behind}
 
 digits : (n : ℕ) → Dec (suc n ≤ 10) → Dec (suc n ≤ 100) → (length (decimal n) ≤ 3) × (n < 100 → length (decimal n) ≤ 2)
@@ -59,14 +59,14 @@ number-few SlotCount m h = omega arith
 number-few Samples m h = omega arith
 number-few Tables m h = omega arith
 number-few Room m h = omega arith
-number-few Unwritable m h = omega arith
+number-few Record m h = omega arith
 number-few TimeGrid m h = omega arith
 number-few BitsEnd m h = omega arith
 number-few EnvelopeCount m h = omega arith
 number-few Chain m h = omega arith
 
 -- a frame's line has at most 64 bytes
-pub length-frame : (i : ℕ) (f : Frame) → Short i f → length (frameLine i f) ≤ 64
+pub length-frame : (i : ℕ) (f : Accepted) → Short i f → length (frameLine i f) ≤ 64
 unfolding frameLine
 length-frame i f s =
     simp (length-append, length-map)
@@ -85,14 +85,14 @@ unfolding refusalLine
 length-refusal i e = simp length-append (omega (arith, length-decimal i, length-decimal (numberOf e)))
 
 -- parts that were put behind one another are a frame's line
-pub frame-whole : (r : Line) (i : ℕ) (f : Frame) → Short i f
-    → r ≡ appended (lineOf []) (((((((decimal i ++ (32 ∷ [])) ++ className (f .grid .frameClass)) ++ (32 ∷ [])) ++ timesText (f .time)) ++ stroke) ++ map resolution (f .grid .freqRes)) ++ (10 ∷ []))
+pub frame-whole : (r : Line) (i : ℕ) (f : Accepted) → Short i f
+    → r ≡ withText (lineOf []) (((((((decimal i ++ (32 ∷ [])) ++ className (f .grid .frameClass)) ++ (32 ∷ [])) ++ timesText (f .time)) ++ stroke) ++ map resolution (f .grid .freqRes)) ++ (10 ∷ []))
     → r ≡ lineOf (frameLine i f)
 unfolding frameLine
 frame-whole r i f s e = rw (← (line-whole (frameLine i f) (length-frame i f s))) (simp append-assoc at e)
 
 pub refusal-whole : (r : Line) (i : ℕ) (e : Refusal) (m : ℕ) → m ≡ numberOf e
-    → r ≡ appended (lineOf []) (((decimal i ++ (32 ∷ 114 ∷ 101 ∷ 102 ∷ 117 ∷ 115 ∷ 101 ∷ 100 ∷ 32 ∷ [])) ++ decimal m) ++ (10 ∷ []))
+    → r ≡ withText (lineOf []) (((decimal i ++ (32 ∷ 114 ∷ 101 ∷ 102 ∷ 117 ∷ 115 ∷ 101 ∷ 100 ∷ 32 ∷ [])) ++ decimal m) ++ (10 ∷ []))
     → r ≡ lineOf (refusalLine i e)
 unfolding refusalLine
 refusal-whole r i e m f g =

@@ -9,7 +9,7 @@ use Rattle.sbr_grid.specs.declared.SbrGrid.{SbrGrid}
 use Rattle.sbr_grid.specs.Grid.{first, viewOf}
 use Rattle.sbr_grid.specs.declared.TimeGrid.{TimeGrid}
 use Rattle.sbr_grid.specs.Times.{Times}
-use Rattle.sbr_reader.specs.Read.{Frame}
+use Rattle.sbr_reader.specs.Read.{Accepted}
 use Rattle.sbr_list.specs.Listing.{spaced, signed, stroke}
 use Rattle.sbr_list.specs.declared.text.Line.{Line}
 
@@ -26,9 +26,9 @@ abbrev pub withByte : Line → ℕ → Line
 withByte w b = cond (ltb (w .len) 64) (record { bytes = set (w .bytes) (w .len) b; len = w .len + 1 }) w
 
 -- a text behind that of a line
-unfoldable pub appended : Line → List ℕ → Line
-appended w [] = w
-appended w (b ∷ text) = appended (withByte w b) text
+unfoldable pub withText : Line → List ℕ → Line
+withText w [] = w
+withText w (b ∷ text) = withText (withByte w b) text
 
 -- numbers of at most two digits
 abbrev pub Small : List ℕ → Type 0
@@ -43,7 +43,7 @@ pub record ShortTimes (t : Times) : Type 0 where
   pub mark : mag (t .lA) < 100
 
 -- a frame whose line has at most 64 bytes
-pub record Short (i : ℕ) (f : Frame) : Type 0 where
+pub record Short (i : ℕ) (f : Accepted) : Type 0 where
   pub number : i < 1000
   pub times : ShortTimes (f .time)
   pub flags : length (f .grid .freqRes) ≤ 5
@@ -61,5 +61,5 @@ timesOf t = record {
 }
 
 -- what a line shows of a frame, by its two records
-abbrev pub shownOf : SbrGrid → TimeGrid → Frame
+abbrev pub shownOf : SbrGrid → TimeGrid → Accepted
 shownOf g t = record { grid = viewOf g; time = timesOf t; position = 0; border = 0 }

@@ -10,7 +10,7 @@ use Rattle.sbr_grid.specs.declared.Refusal.{Refusal}
 use Rattle.sbr_grid.specs.declared.Refusal.the-variants.{BitsEnd}
 use Rattle.sbr_grid.specs.Refusals.{Outcome, answered, refused, numberOf}
 use Rattle.sbr_grid.specs.Grid.{byClass}
-use Rattle.sbr_reader.specs.Read.{Frame, readGrid}
+use Rattle.sbr_reader.specs.Read.{Accepted, readGrid}
 
 -- a number below 1000 in base ten
 unfoldable pub decimal : ℕ → List ℕ
@@ -48,7 +48,7 @@ abbrev pub stroke : List ℕ
 stroke = 32 ∷ 47 ∷ 32 ∷ []
 
 -- frame number, class, borders / noise borders / mark / resolutions
-unfoldable pub frameLine : ℕ → Frame → List ℕ
+unfoldable pub frameLine : ℕ → Accepted → List ℕ
 frameLine i f =
     decimal i ++ (32 ∷ className (f .grid .frameClass) ++ (32 ∷ spaced (f .time .tE) ++ (stroke ++ (spaced (f .time .tQ)
     ++ (stroke ++ (signed (f .time .lA) ++ (stroke ++ (map resolution (f .grid .freqRes) ++ (10 ∷ [])))))))))
@@ -58,7 +58,7 @@ unfoldable pub refusalLine : ℕ → Refusal → List ℕ
 refusalLine i e = decimal i ++ (32 ∷ 114 ∷ 101 ∷ 102 ∷ 117 ∷ 115 ∷ 101 ∷ 100 ∷ 32 ∷ decimal (numberOf e) ++ (10 ∷ []))
 
 -- a frame's line and what follows it; a refusal ends the list
-abbrev pub andThen : ℕ → (Frame → List ℕ) → Outcome Frame → List ℕ
+abbrev pub andThen : ℕ → (Accepted → List ℕ) → Outcome Accepted → List ℕ
 andThen i next (answered f) = frameLine i f ++ next f
 andThen i next (refused e) = refusalLine i e
 

@@ -2,13 +2,13 @@
 ghost use mathlib.Core.Path.{_≡_};
 ghost use mathlib.Core.Bool.{false};
 ghost use mathlib.Core.List.{[], _∷_, map};
-ghost use Prim.Native.Nat.{ℕ, _+_, _≤_, _<_};
+ghost use Prim.Native.Nat.{_+_, _≤_, _<_};
 ghost use lib.ListN.{length};
 ghost use lib.IntN.{natAbs};
 ghost use lib.Signed.{mag};
 ghost use Rattle.sbr_grid.specs.Grid.{first, viewOf};
 ghost use Rattle.sbr_list.specs.Listing.{decimal, signed, spaced, className, resolution, frameLine, refusalLine};
-ghost use Rattle.sbr_list.specs.Line.{lineOf, appended, Small, ShortTimes, Short, timesText, timesOf, shownOf};
+ghost use Rattle.sbr_list.specs.Line.{lineOf, withText, Small, ShortTimes, Short, timesText, timesOf, shownOf};
 use sbr_grid::FrameClass;
 use sbr_grid::Refusal;
 use sbr_grid::SbrGrid;
@@ -36,7 +36,7 @@ impl Line {
 
     // A byte behind the text; a full line stays as it is.
     fn byte(self, b: u8) -> Self
-        ensures { λ r. ⌜ r ≡ appended self (b ∷ []) ⌝ }
+        ensures { λ r. ⌜ r ≡ withText self (b ∷ []) ⌝ }
     {
         let at = self.len;
         if at < Line::SIZE {
@@ -49,7 +49,7 @@ impl Line {
 
     // Bytes behind the text.
     fn bytes(self, text: &[u8]) -> Self
-        ensures { λ r. ⌜ r ≡ appended self (now (text .entry)) ⌝ }
+        ensures { λ r. ⌜ r ≡ withText self (now (text .entry)) ⌝ }
     {
         let mut line = self;
         for j in 0..text.len() {
@@ -61,7 +61,7 @@ impl Line {
     // A digit behind the text.
     fn digit(self, d: usize) -> Self
         requires { ⌜ d < 10 ⌝ }
-        ensures { λ r. ⌜ r ≡ appended self ((48 + d) ∷ []) ⌝ }
+        ensures { λ r. ⌜ r ≡ withText self ((48 + d) ∷ []) ⌝ }
     {
         self.byte(48 + d as u8)
     }
@@ -69,7 +69,7 @@ impl Line {
     // A number in base ten behind the text.
     fn decimal(self, n: usize) -> Self
         requires { ⌜ n < 1000 ⌝ }
-        ensures { λ r. ⌜ r ≡ appended self (decimal n) ⌝ }
+        ensures { λ r. ⌜ r ≡ withText self (decimal n) ⌝ }
     {
         if n < 10 {
             return self.digit(n);
@@ -83,7 +83,7 @@ impl Line {
     // A number that may be negative behind the text.
     fn signed(self, n: i32) -> Self
         requires { ⌜ mag n < 100 ⌝ }
-        ensures { λ r. ⌜ r ≡ appended self (signed n) ⌝ }
+        ensures { λ r. ⌜ r ≡ withText self (signed n) ⌝ }
     {
         if n < 0 {
             return self.byte(b'-').decimal(magnitude(n));
@@ -93,7 +93,7 @@ impl Line {
 
     // The name of a class behind the text.
     fn class(self, class: FrameClass) -> Self
-        ensures { λ r. ⌜ r ≡ appended self (className class) ⌝ }
+        ensures { λ r. ⌜ r ≡ withText self (className class) ⌝ }
     {
         let name = name(class);
         self.bytes(&name)
@@ -103,7 +103,7 @@ impl Line {
     fn borders(self, borders: &[u32], last: usize) -> Self
         requires within { ⌜ last < length (now borders) ⌝ }
         requires small { ⌜ Small (first 0 (last + 1) (now borders)) ⌝ }
-        ensures { λ r. ⌜ r ≡ appended self (spaced (first 0 (last + 1) (now (borders .entry)))) ⌝ }
+        ensures { λ r. ⌜ r ≡ withText self (spaced (first 0 (last + 1) (now (borders .entry)))) ⌝ }
     {
         let mut line = self.decimal(borders[0] as usize);
         for j in 1..last + 1 {
@@ -115,7 +115,7 @@ impl Line {
     // The borders, noise borders and mark of a time grid behind the text.
     fn times(self, time: TimeGrid) -> Self
         requires { ⌜ ShortTimes (timesOf time) ⌝ }
-        ensures { λ r. ⌜ r ≡ appended self (timesText (timesOf time)) ⌝ }
+        ensures { λ r. ⌜ r ≡ withText self (timesText (timesOf time)) ⌝ }
     {
         let borders = time.t_e;
         let last = time.num_env;
@@ -130,7 +130,7 @@ impl Line {
     // A letter for each of the first resolutions behind the text.
     fn resolutions(self, high: &[bool], count: usize) -> Self
         requires { ⌜ count ≤ length (now high) ⌝ }
-        ensures { λ r. ⌜ r ≡ appended self (map resolution (first false count (now (high .entry)))) ⌝ }
+        ensures { λ r. ⌜ r ≡ withText self (map resolution (first false count (now (high .entry)))) ⌝ }
     {
         let mut line = self;
         for j in 0..count {
@@ -142,7 +142,7 @@ impl Line {
     // The resolutions of a grid behind the text.
     fn flags(self, grid: SbrGrid) -> Self
         requires { ⌜ grid .«num_env» ≤ 5 ⌝ }
-        ensures { λ r. ⌜ r ≡ appended self (map resolution (viewOf grid .freqRes)) ⌝ }
+        ensures { λ r. ⌜ r ≡ withText self (map resolution (viewOf grid .freqRes)) ⌝ }
     {
         let high = grid.freq_res;
         let count = grid.num_env;

@@ -7,7 +7,7 @@ use native.Mathlib.Omega.{arith}
 use lib.ListN.{length, getD, set, take, drop, length-append, length-drop}
 use lib.Seq.{paste, paste-suc, take-all}
 use lib.Ieee.{Float}
-use Rattle.sbr_qmf.specs.Qmf.{Samples}
+use Rattle.sbr_qmf.specs.Qmf.{SampleAt}
 use Rattle.sbr_floats.specs.Floats.{zero64, meanOf}
 use Rattle.sbr_energy.specs.Energy.{bandTotal}
 use Rattle.sbr_bands.specs.Tables.{entry, Span, spansFrom}
@@ -19,10 +19,10 @@ pub front-long : (k m : ℕ) (vs u t : List Float) → length vs ≡ k → k ≤
 front-long k m vs u t n h p e = rw (e, length-append, length-drop) (omega arith)
 
 -- the means of k bands of a table from entry i on, over the slots t0 to t1
-abbrev pub means : Samples → List ℕ → ℕ → ℕ → ℕ → ℕ → List Float
+abbrev pub means : SampleAt → List ℕ → ℕ → ℕ → ℕ → ℕ → List Float
 means x table i k t0 t1 = map (meanIn x (record { from = t0; to = t1 })) (spansFrom table i k)
 
-module _ (x : Samples) (table : List ℕ) (i k t0 t1 at : ℕ) (u : List Float) where
+module _ (x : SampleAt) (table : List ℕ) (i k t0 t1 at : ℕ) (u : List Float) where
   -- they are k
   means-long : length (means x table i k t0 t1) ≡ k
   means-long = mapped-length _ table i k

@@ -4,7 +4,7 @@ use Prim.Native.Nat.{ℕ, _+_, _-_, _*_, _≤_}
 use native.Mathlib.Omega.{arith}
 use lib.Ieee as Ieee
 use lib.Ieee.{Float, binary64}
-use Rattle.sbr_qmf.specs.Qmf.{Samples}
+use Rattle.sbr_qmf.specs.Qmf.{SampleAt}
 use Rattle.sbr_floats.specs.Floats.{zero64, total}
 use Rattle.sbr_energy.specs.Energy.{bandSum, bandTotal}
 use Rattle.sbr_energy.proofs.Laws.{total-none, total-more}
@@ -16,7 +16,7 @@ slot-none f n =
     rw e (total-none f)
 
 -- the two columns, c and d, of one slot more
-pub slot-more : (x : Samples) (kl kh t0 t u c d : ℕ) (sum a b : Float) → t0 ≤ t → u ≡ t + 1 → c ≡ 2 * t + 2 → d ≡ 2 * t + 3 → sum ≡ bandTotal x t0 t kl kh
+pub slot-more : (x : SampleAt) (kl kh t0 t u c d : ℕ) (sum a b : Float) → t0 ≤ t → u ≡ t + 1 → c ≡ 2 * t + 2 → d ≡ 2 * t + 3 → sum ≡ bandTotal x t0 t kl kh
     → a ≡ bandSum x kl kh c → b ≡ bandSum x kl kh d → Ieee.add binary64 (Ieee.add binary64 sum a) b ≡ bandTotal x t0 u kl kh
 slot-more x kl kh t0 t u c d sum a b h l m o p q r =
     let n : ℕ = 2 * t + 2 - (2 * t0 + 2) in

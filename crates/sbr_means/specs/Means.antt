@@ -3,7 +3,7 @@ use mathlib.Core.List.{List}
 use Prim.Native.Nat.{ℕ, _+_, _≤_, _<_}
 use lib.ListN.{length}
 use lib.Ieee.{Float}
-use Rattle.sbr_qmf.specs.Qmf.{Samples as SampleAt}
+use Rattle.sbr_qmf.specs.Qmf.{SampleAt}
 use Rattle.sbr_energy.specs.Energy.{bandMean}
 use Rattle.sbr_bands.specs.Tables.{entry, Span}
 

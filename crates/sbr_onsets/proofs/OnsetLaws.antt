@@ -4,7 +4,7 @@ use mathlib.Core.Bool.{Bool, true, false, cond, _&&_}
 use mathlib.Core.List.{List, [], _∷_, _++_, append-assoc, append-nil}
 use Prim.Native.Nat.{ℕ, zero, suc, _+_, _-_, _/_, _≤_, _<_}
 use native.Mathlib.Omega.{arith}
-use native.Mathlib.Nat.{not-suc-le-zero, le-of-suc-le-suc, zero-add}
+use native.Mathlib.Nat.{zero-add}
 use native.Mathlib.Decide.{decLt}
 use native.Mathlib.Numerals.{add-one}
 use borrow.Author.Tests.{lt-ltb, le-ltb}
@@ -15,7 +15,7 @@ use lib.Ieee.{Float, binary64, nan}
 use Rattle.sbr_grid.specs.Grid.{first}
 use Rattle.sbr_grid.proofs.Laws.{first-take}
 use Rattle.sbr_floats.specs.Floats.{maxOf, minOf, total, meanOf, floor64}
-use Rattle.sbr_search.specs.Plans.{OnsetsFrom}
+use Rattle.sbr_build.specs.Cases.{OnsetsFrom}
 use Rattle.sbr_onsets.specs.Onsets.{eight, nano, tenth, one64, half, two64, peakOf, isAttack, onsetsFrom, detectOnsets, halvesAlike}
 use Rattle.sbr_onsets.proofs.OnsetSame.{total-same}
 

@@ -13,12 +13,12 @@ use mir.Syntax.{w32, w64}
 use mir.Val.{SFits, toZ, ofZ}
 use mir.ValLaws.{toZ-ofZ, toZ-pos}
 use Rattle.sbr_grid.specs.Times.{slotCount}
-use Rattle.sbr_search.specs.Plans.{Case}
-use Rattle.sbr_onsets.specs.Onsets.{held, leadOf, onsetsOf}
+use Rattle.sbr_build.specs.Cases.{Case}
+use Rattle.sbr_onsets.specs.Onsets.{clamped, leadOf, onsetsOf}
 use Rattle.sbr_onsets.proofs.OnsetLaws.{onsets-apart}
 
--- a number that is held is at most 3
-held-small : (z : ℤ) → held z ≤ 3
+-- a number that is clamped is at most 3
+held-small : (z : ℤ) → clamped z ≤ 3
 held-small (pos k) = omega arith
 held-small (negsuc k) = omega arith
 
@@ -28,7 +28,7 @@ lead-small n previous = held-small (previous -ℤ pos n)
 
 -- a frame hands its lead and its onsets to the builders
 pub frame-case : (n : ℕ) (previous : ℤ) (e : ℕ → Float) → slotCount n ≡ true → Case n (leadOf n previous) (onsetsOf e n)
-frame-case n previous e h = record { slots = h; held = lead-small n previous; onsets = onsets-apart _ n }
+frame-case n previous e h = record { slots = h; clamped = lead-small n previous; onsets = onsets-apart _ n }
 
 -- ---- the difference of the code
 
@@ -62,12 +62,12 @@ module _ (z : ℤ) (n : ℕ) (f : SFits w32 z) (h : n ≤ 16) where
 -- ---- the tests of the code
 
 -- a number below 0
-pub held-below : (z : ℤ) → ltZ z (pos 0) ≡ true → 0 ≡ held z
+pub held-below : (z : ℤ) → ltZ z (pos 0) ≡ true → 0 ≡ clamped z
 held-below (pos k) t = absurd (omega (arith, ltb-true k 0 t))
 held-below (negsuc k) t = refl
 
 -- a number above 3
-pub held-above : (z : ℤ) → ltZ (pos 3) z ≡ true → 3 ≡ held z
+pub held-above : (z : ℤ) → ltZ (pos 3) z ≡ true → 3 ≡ clamped z
 held-above (pos k) t = omega (arith, ltb-true 3 k t)
 held-above (negsuc k) t = absurd (false≢true t)
 
@@ -75,7 +75,7 @@ held-above (negsuc k) t = absurd (false≢true t)
 pub record Within (z : ℤ) : Type 0 where
   pub positive : T (nonNeg z)
   pub small : natAbs z ≤ 3
-  pub is-held : natAbs z ≡ held z
+  pub is-held : natAbs z ≡ clamped z
 
 -- neither below 0 nor above 3
 pub held-within : (z : ℤ) → ltZ z (pos 0) ≡ false → ltZ (pos 3) z ≡ false → Within z

@@ -7,7 +7,7 @@ use native.Mathlib.Decide.{decLt}
 use borrow.Author.Tests.{lt-ltb, le-ltb}
 use lib.ListN.{getD}
 use lib.Ieee.{Float, nan}
-use Rattle.sbr_qmf.specs.Qmf.{Samples}
+use Rattle.sbr_qmf.specs.Qmf.{SampleAt}
 use Rattle.sbr_floats.specs.Floats.{total}
 use Rattle.sbr_energy.specs.Energy.{slotEnergy, slotEnergies}
 use Rattle.sbr_energy.proofs.Laws.{energies-at}
@@ -74,7 +74,7 @@ halves-same e e′ n a =
 
 -- ---- the array of energies in the place of the energies
 
-module _ (x : Samples) (kl kh n : ℕ) where
+module _ (x : SampleAt) (kl kh n : ℕ) where
   -- up to its end the array holds the energies
   energies-agree : Agree (λ i. getD (slotEnergies x kl kh (n + 8)) i nan) (slotEnergy x kl kh) (n + 8)
   energies-agree i h = energies-at x kl kh (n + 8) i nan h

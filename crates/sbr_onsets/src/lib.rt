@@ -1,13 +1,13 @@
 // Onsets of a frame from its slot energies, and its lead: src/sbr_encoder.rs.
+use sbr_build::Onsets;
 use sbr_grid::SbrGrid;
-use sbr_search::Onsets;
 ghost use mathlib.Core.Path.{_≡_};
 ghost use mathlib.Core.Bool.{true};
-ghost use Prim.Native.Nat.{ℕ, _+_, _-_, _≤_, _<_};
+ghost use Prim.Native.Nat.{_+_, _-_, _≤_, _<_};
 ghost use lib.ListN.{getD};
 ghost use lib.Ieee.{nan};
 ghost use Rattle.sbr_floats.specs.Floats.{total};
-ghost use Rattle.sbr_search.specs.Forms.{onsetList};
+ghost use Rattle.sbr_build.specs.Cases.{onsetList};
 ghost use Rattle.sbr_grid.specs.Times.{slotCount};
 ghost use Rattle.sbr_onsets.specs.Onsets.{peakOf, isAttack, detectOnsets, halvesAlike, onsetsOf, leadOf};
 

@@ -17,7 +17,7 @@ use Rattle.sbr_grid.specs.Refusals.{Outcome, answered, refused}
 use Rattle.sbr_writer.specs.Syntax.{twos}
 use Rattle.sbr_writer.specs.Write.{every, small}
 use Rattle.sbr_writer.proofs.Facts.{both}
-use Rattle.sbr_parse.specs.Syntax.{Reader, onward, _>>=_, pure, flags, field, lengths, counted}
+use Rattle.sbr_parse.specs.Syntax.{Reader, onward, _followedBy_, giving, flags, field, relBords, checkedCount}
 
 -- m reads a from the bits u, whatever follows
 pub record Back {A : Type 0} (m : Reader A) (a : A) (u : List Bool) : Type 0 where
@@ -40,39 +40,39 @@ Coded P w a u = P a × (u ≡ w a)
 
 -- where the first answers, the second goes on
 then-reads : {A B : Type 0} (m : Reader A) (f : A → Reader B) (bs : List Bool) {r : List Bool} {a : A} {x : Outcome (B × List Bool)}
-    → m bs ≡ answered (a, r) → f a r ≡ x → (m >>= f) bs ≡ x
-unfolding _>>=_
+    → m bs ≡ answered (a, r) → f a r ≡ x → (m followedBy f) bs ≡ x
+unfolding _followedBy_
 then-reads m f bs e h = ap (onward f) e ∙ h
 
 -- where the first refuses, both do
-then-refuses : {A B : Type 0} (m : Reader A) (f : A → Reader B) (bs : List Bool) {e : Refusal} → m bs ≡ refused e → (m >>= f) bs ≡ refused e
-unfolding _>>=_
+then-refuses : {A B : Type 0} (m : Reader A) (f : A → Reader B) (bs : List Bool) {e : Refusal} → m bs ≡ refused e → (m followedBy f) bs ≡ refused e
+unfolding _followedBy_
 then-refuses m f bs e = ap (onward f) e
 
 -- the bits of the first value, then those of the second
 pub back-then : {A B : Type 0} {m : Reader A} (f : A → Reader B) {a : A} {b : B} {u v : List Bool}
-    → Back m a u → Back (f a) b v → Back (m >>= f) b (u ++ v)
+    → Back m a u → Back (f a) b v → Back (m followedBy f) b (u ++ v)
 back-then {m = m} f {u = u} {v = v} h k =
     record { reads = λ r. then-reads m f ((u ++ v) ++ r) (rw (append-assoc u v r) (h .reads (v ++ r))) (k .reads r) }
 
 -- a value that is there takes no bits
-pub back-pure : {A : Type 0} (a : A) → Back (pure a) a []
+pub back-pure : {A : Type 0} (a : A) → Back (giving a) a []
 back-pure a = record { reads = λ r. refl }
 
 -- what is made of a value takes the bits of that value
-pub back-map : {A B : Type 0} {m : Reader A} (h : A → B) {a : A} {u : List Bool} → Back m a u → Back (m >>= λ x. pure (h x)) (h a) u
-back-map h {a = a} {u = u} k = rw (append-nil u) at (back-then (λ x. pure (h x)) k (back-pure (h a)))
+pub back-map : {A B : Type 0} {m : Reader A} (h : A → B) {a : A} {u : List Bool} → Back m a u → Back (m followedBy λ x. giving (h x)) (h a) u
+back-map h {a = a} {u = u} k = rw (append-nil u) at (back-then (λ x. giving (h x)) k (back-pure (h a)))
 
 -- the same three, at any list of bits
-pub seen-pure : {A : Type 0} {P : A → List Bool → Type 0} (n : ℕ) (a : A) → P a [] → Reads n P (pure a)
+pub seen-pure : {A : Type 0} {P : A → List Bool → Type 0} (n : ℕ) (a : A) → P a [] → Reads n P (giving a)
 seen-pure n a p bs = full a [] bs refl (omega arith) p (back-pure a)
 
 pub seen-then : {A B : Type 0} {P : A → Type 0} {w : A → List Bool} {k : ℕ} {m : Reader A} (f : A → Reader B) (Q : B → List Bool → Type 0)
-    (n : ℕ) → Reads k (Coded P w) m → k ≤ n → ((a : A) → P a → Reads (n - k) (λ b v. Q b (w a ++ v)) (f a)) → Reads n Q (m >>= f)
+    (n : ℕ) → Reads k (Coded P w) m → k ≤ n → ((a : A) → P a → Reads (n - k) (λ b v. Q b (w a ++ v)) (f a)) → Reads n Q (m followedBy f)
 seen-then {A} {B} {P} {w} {k} {m} f Q n h j g bs = first (h bs)
   where
     second : (a : A) (u r : List Bool) → bs ≡ u ++ r → length u ≤ k → u ≡ w a → Back m a u
-        → Seen (n - k) (λ b v. Q b (w a ++ v)) (f a) r → Seen n Q (m >>= f) bs
+        → Seen (n - k) (λ b v. Q b (w a ++ v)) (f a) r → Seen n Q (m followedBy f) bs
     second a u r e l c t (full b v s d i q z) =
         full b (u ++ v) s (rw (e, d, append-assoc u v s)) (omega (arith, length-append u v)) (rw c q) (back-then f t z)
     second a u r e l c t (none d q never) =
@@ -80,14 +80,14 @@ seen-then {A} {B} {P} {w} {k} {m} f Q n h j g bs = first (h bs)
         (λ i ys. then-reads m f (bs ++ ys) (rw (e, append-assoc u r ys) (t .reads (r ++ ys)))
         (never (omega (arith, length-append u r, ap length e)) ys))
 
-    first : Seen k (Coded P w) m bs → Seen n Q (m >>= f) bs
+    first : Seen k (Coded P w) m bs → Seen n Q (m followedBy f) bs
     first (full a u r e l p t) = second a u r e l (p .1) t (g a (p .0) r)
     first (none e q never) = none e (then-refuses m f bs q) (λ i ys. then-refuses m f (bs ++ ys) (never (omega arith) ys))
 
 pub seen-map : {A B : Type 0} {P : A → Type 0} {w : A → List Bool} {k : ℕ} {m : Reader A} (h : A → B) (Q : B → List Bool → Type 0)
-    (n : ℕ) → Reads k (Coded P w) m → k ≤ n → ((a : A) → P a → Q (h a) (w a)) → Reads n Q (m >>= λ x. pure (h x))
+    (n : ℕ) → Reads k (Coded P w) m → k ≤ n → ((a : A) → P a → Q (h a) (w a)) → Reads n Q (m followedBy λ x. giving (h x))
 seen-map {w = w} {k = k} h Q n g l q =
-    seen-then (λ x. pure (h x)) Q n g l (λ a p. seen-pure (n - k) (h a) (rw (append-nil (w a)) (q a p)))
+    seen-then (λ x. giving (h x)) Q n g l (λ a p. seen-pure (n - k) (h a) (rw (append-nil (w a)) (q a p)))
 
 -- ---- the first n bits, for a value h that they stand for
 
@@ -130,25 +130,25 @@ unfolding field
 seen-field n = seen-front numOf n (λ u e. (rw e at (num-lt u), sym (rw e at (bits-num u))))
 
 -- a count takes no bits, and is refused or not whatever follows
-pub back-counted : (n : ℕ) (ok : Bool) → ok ≡ true → Back (counted ok n) n []
-unfolding counted
+pub back-counted : (n : ℕ) (ok : Bool) → ok ≡ true → Back (checkedCount ok n) n []
+unfolding checkedCount
 back-counted n ok e = record { reads = λ r. rw e }
 
-pub seen-counted : (n : ℕ) (ok : Bool) → Reads 0 (Coded (λ k. (ok ≡ true) × (k ≡ n)) (λ k. [])) (counted ok n)
-unfolding counted
+pub seen-counted : (n : ℕ) (ok : Bool) → Reads 0 (Coded (λ k. (ok ≡ true) × (k ≡ n)) (λ k. [])) (checkedCount ok n)
+unfolding checkedCount
 seen-counted n true bs = full n [] bs refl (omega arith) ((refl, refl), refl) (record { reads = λ r. refl })
 seen-counted n false bs = none EnvelopeCount refl (λ l ys. refl)
 
 -- stored lengths are read from two bits each
-pub back-lengths : (rs : List ℕ) → small rs ≡ true → Back (lengths (length rs)) rs (twos rs)
-unfolding lengths twos every
+pub back-lengths : (rs : List ℕ) → small rs ≡ true → Back (relBords (length rs)) rs (twos rs)
+unfolding relBords twos every
 back-lengths [] h = back-pure []
 back-lengths (r ∷ rs) h =
     let s = both (leb r 3) (small rs) h in
     back-then _ (back-field 2 r (omega (arith, leb-true r 3 (s .0)))) (back-map (λ x. r ∷ x) (back-lengths rs (s .1)))
 
-pub seen-lengths : (k : ℕ) → Reads (2 * k) (Coded (λ rs. (length rs ≡ k) × (small rs ≡ true)) twos) (lengths k)
-unfolding lengths twos every
+pub seen-lengths : (k : ℕ) → Reads (2 * k) (Coded (λ rs. (length rs ≡ k) × (small rs ≡ true)) twos) (relBords k)
+unfolding relBords twos every
 seen-lengths zero = seen-pure _ [] ((refl, refl), refl)
 seen-lengths (suc k) =
     seen-then _ _ (2 * suc k) (seen-field 2) (omega arith)

@@ -17,25 +17,25 @@ use Rattle.sbr_grid.specs.declared.Refusal.the-variants.{BitsEnd, EnvelopeCount
 use Rattle.sbr_grid.specs.Refusals.{answered, refused}
 use Rattle.sbr_grid.specs.declared.Answer.the-variants.{Given}
 use Rattle.sbr_grid.specs.Grid.{byClass, classOf, ptrBits, noiseOf, first}
-use Rattle.sbr_grid.proofs.Widths.{ptr-bits-log}
-use Rattle.sbr_parse.specs.Syntax.{Reader, _>>=_, pure, flags, field, counted, received, ordered, behindCounts, fixFix, fixVar, varFix, varVar, sbrGrid}
+use Rattle.sbr_grid.proofs.Widths.{pointer-width}
+use Rattle.sbr_parse.specs.Syntax.{Reader, _followedBy_, giving, flags, field, checkedCount, received, ordered, behindCounts, fixFix, fixVar, varFix, varVar, sbrGrid}
 use Rattle.sbr_parse.specs.Parse.{parsedOf, twosOf}
 use Rattle.sbr_parse.specs.declared.Parsed.{Parsed}
 use Rattle.sbr_parse.proofs.ParseReads.{Short, Takes, then-reads, then-short, takes-then, takes-map, takes-field, takes-flags, takes-lengths}
 
 -- two numbers of two bits each, then what is read behind them
 pub pair-reads : {A : Type 0} (f : ℕ → ℕ → Reader A) (n m v : ℕ) → n ≡ 4 + m
-    → (field 2 >>= λ a. field 2 >>= f a) (bitsOf n v) ≡ f (v / 2 ^ (m + 2) % 4) (v / 2 ^ m % 4) (bitsOf m v)
+    → (field 2 followedBy λ a. field 2 followedBy f a) (bitsOf n v) ≡ f (v / 2 ^ (m + 2) % 4) (v / 2 ^ m % 4) (bitsOf m v)
 pair-reads f n m v e =
-    then-reads (λ a. field 2 >>= f a) (takes-field 2) n (m + 2) v (omega arith)
+    then-reads (λ a. field 2 followedBy f a) (takes-field 2) n (m + 2) v (omega arith)
     ∙ then-reads (f (v / 2 ^ (m + 2) % 4)) (takes-field 2) (m + 2) m v (omega arith)
 
 -- too few bits for the two numbers and k bits behind them
-pub pair-short : {A : Type 0} (f : ℕ → ℕ → Reader A) (k : ℕ) → ((a b : ℕ) → Short k (f a b)) → Short (2 + (2 + k)) (field 2 >>= λ a. field 2 >>= f a)
-pair-short f k s = then-short (λ a. field 2 >>= f a) (2 + k) (takes-field 2) (λ a. then-short (f a) k (takes-field 2) (s a))
+pub pair-short : {A : Type 0} (f : ℕ → ℕ → Reader A) (k : ℕ) → ((a b : ℕ) → Short k (f a b)) → Short (2 + (2 + k)) (field 2 followedBy λ a. field 2 followedBy f a)
+pair-short f k s = then-short (λ a. field 2 followedBy f a) (2 + k) (takes-field 2) (λ a. then-short (f a) k (takes-field 2) (s a))
 
 -- too few bits for the two numbers, whatever is read behind them
-pub pair-end : {A : Type 0} (f : ℕ → ℕ → Reader A) → Short 4 (field 2 >>= λ a. field 2 >>= f a)
+pub pair-end : {A : Type 0} (f : ℕ → ℕ → Reader A) → Short 4 (field 2 followedBy λ a. field 2 followedBy f a)
 pair-end f = pair-short f 0 (λ a b n v h. absurd (omega arith))
 
 -- ---- what stands behind the counts
@@ -63,8 +63,8 @@ length-twos zero v = refl
 length-twos (suc k) v = ap suc (length-twos k v)
 
 -- a pointer has at most three bits
-pub pointer-width : (n : ℕ) → n ≤ 5 → ptrBits n ≤ 3
-pointer-width n h = ptr-bits-log n .least 3 (omega arith)
+pub pointer-narrow : (n : ℕ) → n ≤ 5 → ptrBits n ≤ 3
+pointer-narrow n h = pointer-width n .least 3 (omega arith)
 
 -- too few bits for all of them
 pub behind-short : (c : FrameClass) (b0 b1 j k w v : ℕ) → w < 2 * j + 2 * k + ptrBits (j + k + 1) + (j + k + 1)
@@ -113,13 +113,13 @@ var-var-short = pair-short _ 4 (λ a b. pair-end _)
 -- counts that make more than five envelopes are refused with 8
 pub var-var-counts : (n q m v : ℕ) → n ≡ 4 + q → q ≡ 4 + m → let j = v / 2 ^ (m + 2) % 4 in let k = v / 2 ^ m % 4 in 5 < j + k + 1
     → varVar (bitsOf n v) ≡ refused EnvelopeCount
-unfolding varVar counted _>>=_
+unfolding varVar checkedCount _followedBy_
 var-var-counts n q m v d e h = pair-reads _ n q v d ∙ pair-reads _ q m v e ∙ rw (lt-leb (v / 2 ^ (m + 2) % 4 + v / 2 ^ m % 4 + 1) 5 h)
 
 -- with any others it goes on behind them
 pub var-var-reads : (n q m v : ℕ) → n ≡ 4 + q → q ≡ 4 + m → let j = v / 2 ^ (m + 2) % 4 in let k = v / 2 ^ m % 4 in j + k + 1 ≤ 5
     → varVar (bitsOf n v) ≡ behindCounts VarVar (v / 2 ^ (q + 2) % 4) (v / 2 ^ q % 4) j k (bitsOf m v)
-unfolding varVar counted _>>=_
+unfolding varVar checkedCount _followedBy_
 var-var-reads n q m v d e h = pair-reads _ n q v d ∙ pair-reads _ q m v e ∙ rw (le-leb (v / 2 ^ (m + 2) % 4 + v / 2 ^ m % 4 + 1) 5 h)
 
 -- ---- FixFix
@@ -145,18 +145,18 @@ fix-fix-short = then-short _ 0 (takes-field 2) (λ a n v h. absurd (omega arith)
 
 -- a count above five is refused with 8
 pub fix-fix-count : (n m v : ℕ) → n ≡ 2 + m → 5 < 2 ^ (v / 2 ^ m % 4) → fixFix (bitsOf n v) ≡ refused EnvelopeCount
-unfolding fixFix counted _>>=_
+unfolding fixFix checkedCount _followedBy_
 fix-fix-count n m v e h = then-reads _ (takes-field 2) n m v e ∙ rw (lt-leb (v / 2 ^ m % 4) 2 (count-over (v / 2 ^ m % 4) h))
 
 -- the resolution of n envelopes
-fix-fix-takes : (n : ℕ) → Takes 1 (λ v. received FixFix (replicate n (bitAt v 0)) 0 0 [] [] 0) (flags 1 >>= λ res. pure (received FixFix (replicate n (getD res 0 false)) 0 0 [] [] 0))
+fix-fix-takes : (n : ℕ) → Takes 1 (λ v. received FixFix (replicate n (bitAt v 0)) 0 0 [] [] 0) (flags 1 followedBy λ res. giving (received FixFix (replicate n (getD res 0 false)) 0 0 [] [] 0))
 unfolding bitsOf
 fix-fix-takes n = takes-map (λ res. received FixFix (replicate n (getD res 0 false)) 0 0 [] [] 0) (takes-flags 1)
 
 -- behind a count that a frame has
 fix-fix-counted : (n m v : ℕ) → n ≡ 2 + m → let t = v / 2 ^ m % 4 in 2 ^ t ≤ 5
-    → fixFix (bitsOf n v) ≡ (flags 1 >>= λ res. pure (received FixFix (replicate (2 ^ t) (getD res 0 false)) 0 0 [] [] 0)) (bitsOf m v)
-unfolding fixFix counted _>>=_
+    → fixFix (bitsOf n v) ≡ (flags 1 followedBy λ res. giving (received FixFix (replicate (2 ^ t) (getD res 0 false)) 0 0 [] [] 0)) (bitsOf m v)
+unfolding fixFix checkedCount _followedBy_
 fix-fix-counted n m v e h = then-reads _ (takes-field 2) n m v e ∙ rw (le-leb (v / 2 ^ m % 4) 2 (count-fits (v / 2 ^ m % 4) h))
 
 -- a count that a frame has, and no bit behind it, is refused with 7

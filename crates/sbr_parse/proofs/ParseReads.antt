@@ -15,7 +15,7 @@ use Rattle.bits.specs.Bits.{bitsOf, numOf}
 use Rattle.bits.proofs.Numbers.{length-bitsOf, bitsOf-split, num-from}
 use Rattle.sbr_grid.specs.declared.Refusal.the-variants.{BitsEnd}
 use Rattle.sbr_grid.specs.Refusals.{answered, refused}
-use Rattle.sbr_parse.specs.Syntax.{Reader, onward, _>>=_, pure, flags, field, lengths}
+use Rattle.sbr_parse.specs.Syntax.{Reader, onward, _followedBy_, giving, flags, field, relBords}
 use Rattle.sbr_parse.specs.Parse.{twosOf}
 
 -- fewer than w bits are refused with 7
@@ -28,27 +28,27 @@ pub record Takes {A : Type 0} (w : ℕ) (f : ℕ → A) (r : Reader A) : Type 0 
   pub short : Short w r
 
 -- a value that is there takes no bits
-pub takes-pure : {A : Type 0} (a : A) → Takes 0 (λ v. a) (pure a)
+pub takes-pure : {A : Type 0} (a : A) → Takes 0 (λ v. a) (giving a)
 takes-pure a = record { reads = λ n m v e. rw (e, zero-add); short = λ n v h. absurd (omega arith) }
 
 -- one reader after another where the first takes w bits
 pub then-reads : {A B : Type 0} {w : ℕ} {f : ℕ → A} {r : Reader A} (g : A → Reader B) → Takes w f r
-    → (n m v : ℕ) → n ≡ w + m → (r >>= g) (bitsOf n v) ≡ g (f (v / 2 ^ m)) (bitsOf m v)
-unfolding _>>=_
+    → (n m v : ℕ) → n ≡ w + m → (r followedBy g) (bitsOf n v) ≡ g (f (v / 2 ^ m)) (bitsOf m v)
+unfolding _followedBy_
 then-reads g t n m v e = ap (onward g) (t .reads n m v e)
 
 -- too few bits for the first reader, or for the second after it
-pub then-short : {A B : Type 0} {w : ℕ} {f : ℕ → A} {r : Reader A} (g : A → Reader B) (k : ℕ) → Takes w f r → ((a : A) → Short k (g a)) → Short (w + k) (r >>= g)
-unfolding _>>=_
+pub then-short : {A B : Type 0} {w : ℕ} {f : ℕ → A} {r : Reader A} (g : A → Reader B) (k : ℕ) → Takes w f r → ((a : A) → Short k (g a)) → Short (w + k) (r followedBy g)
+unfolding _followedBy_
 then-short {w = w} {r = r} g k t s n v h = go (decLt n w)
   where
-    go : Dec (n < w) → (r >>= g) (bitsOf n v) ≡ refused BitsEnd
+    go : Dec (n < w) → (r followedBy g) (bitsOf n v) ≡ refused BitsEnd
     go (yes l) = ap (onward g) (t .short n v l)
     go (no l) = then-reads g t n (n - w) v (omega arith) ∙ s _ (n - w) v (omega arith)
 
 -- both take the sum of their widths
 pub takes-then : {A B : Type 0} {w k : ℕ} {f : ℕ → A} {h : A → ℕ → B} {r : Reader A} (g : A → Reader B) → Takes w f r → ((a : A) → Takes k (h a) (g a))
-    → Takes (w + k) (λ v. h (f (v / 2 ^ k)) v) (r >>= g)
+    → Takes (w + k) (λ v. h (f (v / 2 ^ k)) v) (r followedBy g)
 takes-then {w = w} {k} {f} {h} {r} g t s = record {
   reads = λ n m v e. then-reads g t n (k + m) v (omega arith) ∙ s _ .reads (k + m) m v refl ∙ rw (shr-shr v m k, add-comm m k);
   short = then-short g k t (λ a. s a .short);
@@ -76,17 +76,17 @@ unfolding field
 takes-field w = simp (num-low w) at (takes-bits w numOf)
 
 -- what is made of the value that a reader gives
-pub takes-map : {A B : Type 0} {w : ℕ} {f : ℕ → A} {r : Reader A} (h : A → B) → Takes w f r → Takes w (λ v. h (f v)) (r >>= λ a. pure (h a))
-unfolding _>>=_
+pub takes-map : {A B : Type 0} {w : ℕ} {f : ℕ → A} {r : Reader A} (h : A → B) → Takes w f r → Takes w (λ v. h (f v)) (r followedBy λ a. giving (h a))
+unfolding _followedBy_
 takes-map h t = record {
-  reads = λ n m v e. then-reads (λ a. pure (h a)) t n m v e;
-  short = λ n v l. ap (onward (λ a. pure (h a))) (t .short n v l);
+  reads = λ n m v e. then-reads (λ a. giving (h a)) t n m v e;
+  short = λ n v l. ap (onward (λ a. giving (h a))) (t .short n v l);
 }
 
 -- k stored lengths are the k digits of one field of twice as many bits
-pub takes-lengths : (k : ℕ) → Takes (2 * k) (twosOf k) (lengths k)
-unfolding lengths twosOf
+pub takes-lengths : (k : ℕ) → Takes (2 * k) (twosOf k) (relBords k)
+unfolding relBords twosOf
 takes-lengths zero = takes-pure []
 takes-lengths (suc k) =
     let e : 2 * suc k ≡ 2 + 2 * k = omega arith in
-    rw e (takes-then (λ r. lengths k >>= λ rs. pure (r ∷ rs)) (takes-field 2) (λ r. takes-map (λ rs. r ∷ rs) (takes-lengths k)))
+    rw e (takes-then (λ r. relBords k followedBy λ rs. giving (r ∷ rs)) (takes-field 2) (λ r. takes-map (λ rs. r ∷ rs) (takes-lengths k)))

@@ -24,8 +24,8 @@ parsedOf o = record {
 }
 
 -- the bits of a window
-abbrev pub held : Window → List Bool
-held w = bitsOf (w .width) (w .value)
+abbrev pub windowBits : Window → List Bool
+windowBits w = bitsOf (w .width) (w .value)
 
 -- a and b are the first two numbers of two bits each, and r has the bits behind them
 pub record Paired (w : Window) (a b : ℕ) (r : Window) : Type 0 where

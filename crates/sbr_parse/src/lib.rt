@@ -14,7 +14,7 @@ ghost use Rattle.bits.specs.Bits.{bitAt, bitsOf};
 ghost use Rattle.sbr_grid.specs.Refusals.{refused};
 ghost use Rattle.sbr_grid.specs.Grid.{byClass, noiseOf, first};
 ghost use Rattle.sbr_parse.specs.Syntax.{ordered, behindCounts, sbrGrid, fixFix, fixVar, varFix, varVar};
-ghost use Rattle.sbr_parse.specs.Parse.{Bits, parsedOf, held, Paired, twosOf};
+ghost use Rattle.sbr_parse.specs.Parse.{Bits, parsedOf, windowBits, Paired, twosOf};
 
 // A record, with the number of bits that are left.
 pub struct Parsed {
@@ -88,7 +88,7 @@ fn padded_bits(v: u32, k: u32, n: u32, size: u32) -> u32
 }
 
 // The relative lengths of two bits each above the k lowest bits; the places behind them are 0.
-fn lengths(v: u32, k: u32, count: usize) -> [u8; SbrGrid::MAX_REL_BORD]
+fn rel_bords(v: u32, k: u32, count: usize) -> [u8; SbrGrid::MAX_REL_BORD]
     requires { ⌜ (k < 32) × (count ≤ 4) ⌝ }
     ensures { λ r. ⌜ r ≡ first 0 4 (twosOf count (v / 2 ^ k)) ⌝ }
 {
@@ -162,7 +162,7 @@ fn noise_of(num_env: usize) -> usize
 // The fields of FixFix: the count of envelopes as a power of 2, and one resolution for all.
 fn fix_fix(body: Window) -> Parsed
     requires { ⌜ body .width ≤ 30 ⌝ }
-    ensures { λ r. ⌜ r ≡ parsedOf (fixFix (held body)) ⌝ }
+    ensures { λ r. ⌜ r ≡ parsedOf (fixFix (windowBits body)) ⌝ }
 {
     if body.width < 2 {
         return refusal(Refusal::BitsEnd);
@@ -199,7 +199,7 @@ fn fix_fix(body: Window) -> Parsed
 // The fields behind the counts j and k of relative lengths, for each class that sends such counts.
 fn behind_counts(class: FrameClass, b0: u8, b1: u8, j: usize, k: usize, body: Window) -> Parsed
     requires { ⌜ (body .width ≤ 30) × (j + k + 1 ≤ 5) × (byClass class true false false false ≡ false) ⌝ }
-    ensures { λ r. ⌜ r ≡ parsedOf (behindCounts class b0 b1 j k (held body)) ⌝ }
+    ensures { λ r. ⌜ r ≡ parsedOf (behindCounts class b0 b1 j k (windowBits body)) ⌝ }
 {
     let num_env = j + k + 1;
     let p = sbr_grid::ptr_bits(num_env);
@@ -211,8 +211,8 @@ fn behind_counts(class: FrameClass, b0: u8, b1: u8, j: usize, k: usize, body: Wi
     let behind_trail = behind_lead - 2 * k as u32;
     let behind_pointer = behind_trail - p;
     let left = behind_pointer - num_env as u32;
-    let rel_bord_0 = lengths(v, behind_lead, j);
-    let rel_bord_1 = lengths(v, behind_trail, k);
+    let rel_bord_0 = rel_bords(v, behind_lead, j);
+    let rel_bord_1 = rel_bords(v, behind_trail, k);
     let freq_res = resolutions(class, v, left, num_env);
     Parsed {
         answer: Answer::Given,
@@ -237,7 +237,7 @@ fn behind_counts(class: FrameClass, b0: u8, b1: u8, j: usize, k: usize, body: Wi
 // The fields of FixVar: the border byte and the count of the trailing side, then what stands behind the counts.
 fn fix_var(body: Window) -> Parsed
     requires { ⌜ body .width ≤ 30 ⌝ }
-    ensures { λ r. ⌜ r ≡ parsedOf (fixVar (held body)) ⌝ }
+    ensures { λ r. ⌜ r ≡ parsedOf (fixVar (windowBits body)) ⌝ }
 {
     if body.width < 4 {
         return refusal(Refusal::BitsEnd);
@@ -257,7 +257,7 @@ fn fix_var(body: Window) -> Parsed
 // The fields of VarFix: the same for the leading side.
 fn var_fix(body: Window) -> Parsed
     requires { ⌜ body .width ≤ 30 ⌝ }
-    ensures { λ r. ⌜ r ≡ parsedOf (varFix (held body)) ⌝ }
+    ensures { λ r. ⌜ r ≡ parsedOf (varFix (windowBits body)) ⌝ }
 {
     if body.width < 4 {
         return refusal(Refusal::BitsEnd);
@@ -277,7 +277,7 @@ fn var_fix(body: Window) -> Parsed
 // The fields of VarVar: both border bytes, both counts, then what stands behind the counts.
 fn var_var(body: Window) -> Parsed
     requires { ⌜ body .width ≤ 30 ⌝ }
-    ensures { λ r. ⌜ r ≡ parsedOf (varVar (held body)) ⌝ }
+    ensures { λ r. ⌜ r ≡ parsedOf (varVar (windowBits body)) ⌝ }
 {
     if body.width < 8 {
         return refusal(Refusal::BitsEnd);

@@ -11,9 +11,9 @@ abbrev pub normSqr : Complex → Float
 normSqr z = Ieee.add binary64 (Ieee.mul binary64 (z .re) (z .re)) (Ieee.mul binary64 (z .im) (z .im))
 
 -- the sample of each column and band
-abbrev pub Samples : Type 0
-Samples = ℕ → ℕ → Complex
+abbrev pub SampleAt : Type 0
+SampleAt = ℕ → ℕ → Complex
 
 -- where a lent slice has them: 64 bands a column, a pair of doubles each
-unfoldable pub columns : List Float → Samples
+unfoldable pub columns : List Float → SampleAt
 columns x c k = record { re = getD x ((c * 64 + k) * 2) nan; im = getD x ((c * 64 + k) * 2 + 1) nan }

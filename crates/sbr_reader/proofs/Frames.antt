@@ -19,7 +19,7 @@ use Rattle.sbr_grid.specs.Times.{Times, slotCount}
 use Rattle.sbr_time_grid.specs.TimeGrid.{byPointer, tE, rises, middleBorder, countsFit, bordersFit, noiseFits, accepts, timeGrid}
 use Rattle.sbr_writer.specs.Syntax.{gridBits}
 use Rattle.sbr_parse.specs.Syntax.{sbrGrid}
-use Rattle.sbr_reader.specs.Read.{Frame, isBorder, meets, timed, parsed, readGrid}
+use Rattle.sbr_reader.specs.Read.{Accepted, isBorder, meets, timed, parsed, readGrid}
 use Rattle.sbr_parse.specs.Inverse.{WrittenAs}
 use Rattle.sbr_reader.specs.Inverse.{FrameWrites}
 use Rattle.sbr_writer.proofs.Facts.{both}
@@ -83,14 +83,14 @@ pointed n g t u s h (no l) (yes e) = omega (arith, rw e at (ap (λ x. x .pointer
 pointed n g t u s h (no l) (no f) = time-pointer n g t h (omega arith) f
 
 -- an accepted frame has the record and the position that it was accepted with
-met : (n : ℕ) (b : ℤ) (g : Grid) (q : ℕ) (t : Times) (f : Frame) → meets n b g q t ≡ answered f
+met : (n : ℕ) (b : ℤ) (g : Grid) (q : ℕ) (t : Times) (f : Accepted) → meets n b g q t ≡ answered f
     → (g ≡ f .grid) × (q ≡ f .position)
 unfolding meets
 met n b g q t f h =
     let e = tested (isBorder b (getD (t .tE) 0 0 + n)) _ _ h .1 in
     (ap (valueOr (λ x. x .grid) g) e, ap (valueOr (λ x. x .position) q) e)
 
-module _ (n : ℕ) (b : ℤ) (p : ℕ) (bs : List Bool) (f : Frame) where
+module _ (n : ℕ) (b : ℤ) (p : ℕ) (bs : List Bool) (f : Accepted) where
   -- what is to be shown of a frame read from bs
   abbrev Rewrites : Type 0
   Rewrites = (r : List Bool) × WrittenAs bs (f .grid) r × (f .position ≡ p + length (gridBits (f .grid)))

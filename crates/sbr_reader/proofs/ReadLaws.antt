@@ -16,8 +16,8 @@ use Rattle.bits.proofs.Numbers.{bits-num, num-lt}
 use Rattle.bits.proofs.Stream.{bitsAt-add, length-bitsAt}
 use Rattle.sbr_grid.specs.declared.Refusal.{Refusal}
 use Rattle.sbr_grid.specs.declared.Refusal.the-variants.{SlotCount, Chain}
-use Rattle.sbr_grid.specs.declared.Answer.the-variants.{Given, Refused}
-use Rattle.sbr_grid.specs.Refusals.{Outcome, answered, refused, answerOf}
+use Rattle.sbr_grid.specs.declared.Answer.the-variants.{Given}
+use Rattle.sbr_grid.specs.Refusals.{Outcome, answered, refused}
 use Rattle.sbr_grid.specs.Grid.{Grid, numEnv, viewOf, recordOf}
 use Rattle.sbr_grid.proofs.Laws.{view-record}
 use Rattle.sbr_grid.specs.declared.SbrGrid.{SbrGrid}
@@ -25,10 +25,10 @@ use Rattle.sbr_grid.specs.declared.TimeGrid.{TimeGrid}
 use Rattle.sbr_grid.specs.Times.{Times, slotCount, timeRecord}
 use Rattle.sbr_time_grid.specs.TimeGrid.{timeGrid}
 use Rattle.sbr_parse.specs.Syntax.{sbrGrid}
-use Rattle.sbr_parse.specs.Parse.{Bits, held}
-use Rattle.sbr_reader.specs.Read.{Frame, isBorder, meets, timed, readGrid, readingOf}
+use Rattle.sbr_parse.specs.Parse.{Bits, windowBits}
+use Rattle.sbr_reader.specs.Read.{Accepted, isBorder, meets, timed, readGrid, frameReadOf}
 use Rattle.sbr_reader.specs.declared.Carried.{Carried}
-use Rattle.sbr_reader.specs.declared.Reading.{Reading}
+use Rattle.sbr_reader.specs.declared.FrameRead.{FrameRead}
 use Rattle.sbr_parse.proofs.Inverse.{sent}
 use Rattle.sbr_parse.proofs.Window.{behind, prefix-reads}
 use mir.Syntax.{w32}
@@ -52,7 +52,7 @@ module _ (l : List ℕ) (p : ℕ) where
   window-good = let n = min 32 (endOf (length l) - p) in record { short = omega arith; small = rw (length-bitsAt l p n) at (num-lt (bitsAt l p n)) }
 
   -- its bits are the first of those from p on
-  pub window-held : held (windowOf l p) ≡ bitsAt l p (windowOf l p .width)
+  pub window-held : windowBits (windowOf l p) ≡ bitsAt l p (windowOf l p .width)
   window-held = let n = min 32 (endOf (length l) - p) in rw (length-bitsAt l p n) at (bits-num (bitsAt l p n))
 
   -- reading e bits is reading the first of them, at most 32, with the others behind what is left
@@ -68,7 +68,7 @@ module _ (l : List ℕ) (p : ℕ) where
           ap sbrGrid (rw q at (bitsAt-add l p n (e - n))) ∙ prefix-reads (bitsAt l p n) (bitsAt l (p + n) (e - n)) (omega (arith, length-bitsAt l p n))
 
   -- so is reading all the bits from p on
-  pub window-reads : let n = windowOf l p .width in sbrGrid (bitsFrom l p) ≡ behind (bitsAt l (p + n) (endOf (length l) - p - n)) (sbrGrid (held (windowOf l p)))
+  pub window-reads : let n = windowOf l p .width in sbrGrid (bitsFrom l p) ≡ behind (bitsAt l (p + n) (endOf (length l) - p - n)) (sbrGrid (windowBits (windowOf l p)))
   window-reads = rw window-held (first-reads (endOf (length l) - p))
 
   -- ---- the ways out
@@ -80,12 +80,12 @@ module _ (l : List ℕ) (p : ℕ) where
     read-slots h = rw h
 
     -- 7 and 8: the bits
-    pub read-bits : slotCount n ≡ true → (e : Refusal) → sbrGrid (held (windowOf l p)) ≡ refused e → readGrid l p n b ≡ refused e
+    pub read-bits : slotCount n ≡ true → (e : Refusal) → sbrGrid (windowBits (windowOf l p)) ≡ refused e → readGrid l p n b ≡ refused e
     unfolding readGrid
     read-bits h e k = rw (h, window-reads, k)
 
     -- a record was read: what is left is the time grid
-    pub read-record : slotCount n ≡ true → (g : Grid) (r : List Bool) → sbrGrid (held (windowOf l p)) ≡ answered (g, r)
+    pub read-record : slotCount n ≡ true → (g : Grid) (r : List Bool) → sbrGrid (windowBits (windowOf l p)) ≡ answered (g, r)
         → readGrid l p n b ≡ timed n b g (p + (windowOf l p .width - length r)) (timeGrid n g)
     unfolding readGrid
     read-record h g r k =
@@ -102,7 +102,7 @@ unfolding meets
 meets-not n b g q t h = rw h
 
 -- the frame of a record, a position after it and a time grid
-abbrev pub frameOf : Grid → ℕ → Times → Frame
+abbrev pub frameOf : Grid → ℕ → Times → Accepted
 frameOf g q t = record { grid = g; time = t; position = q; border = getD (t .tE) (numEnv g) 0 }
 
 -- a frame that does
@@ -120,7 +120,7 @@ pub read-left : (bs : List Bool) (g : Grid) (r : List Bool) → sbrGrid bs ≡ a
 read-left bs g r h = let s = sent bs g r h in omega (arith, ap length (s .1), length-append (s .0) r)
 
 -- what is handed out for an accepted frame
-pub read-given : (p : ℕ) (c : Carried) (f : Frame) (g : SbrGrid) (t : TimeGrid) (q : ℕ) (b : ℤ)
+pub read-given : (p : ℕ) (c : Carried) (f : Accepted) (g : SbrGrid) (t : TimeGrid) (q : ℕ) (b : ℤ)
     → g ≡ recordOf (f .grid) → t ≡ timeRecord (f .time) → q ≡ f .position → b ≡ pos (f .border)
-    → _≡_ {A = Reading} (record { answer = Given; grid = g; time = t; position = q; carried = record { border = b } }) (readingOf p c (answered f))
+    → _≡_ {A = FrameRead} (record { answer = Given; grid = g; time = t; position = q; carried = record { border = b } }) (frameReadOf p c (answered f))
 read-given p c f g t q b d e h k = rw (d, e, h, k)

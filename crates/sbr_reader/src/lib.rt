@@ -7,7 +7,7 @@ ghost use mathlib.Core.Path.{_≡_};
 ghost use Rattle.sbr_grid.specs.Refusals.{refused};
 ghost use Prim.Native.Nat.{_^_, _<_};
 ghost use lib.IntN.{pos};
-ghost use Rattle.sbr_reader.specs.Read.{isBorder, readGrid, readingOf};
+ghost use Rattle.sbr_reader.specs.Read.{isBorder, readGrid, frameReadOf};
 
 // What a receiver keeps from frame to frame.
 pub struct Carried {
@@ -15,7 +15,7 @@ pub struct Carried {
     pub border: i32,
 }
 
-pub struct Reading {
+pub struct FrameRead {
     pub answer: Answer,
     pub grid: SbrGrid,
     pub time: TimeGrid,
@@ -24,10 +24,10 @@ pub struct Reading {
     pub carried: Carried,
 }
 
-fn refusal(why: Refusal, pos: usize, carried: Carried) -> Reading
-    ensures { λ r. ⌜ r ≡ readingOf pos carried (refused why) ⌝ }
+fn refusal(why: Refusal, pos: usize, carried: Carried) -> FrameRead
+    ensures { λ r. ⌜ r ≡ frameReadOf pos carried (refused why) ⌝ }
 {
-    Reading {
+    FrameRead {
         answer: Answer::Refused(why),
         grid: SbrGrid::empty(),
         time: TimeGrid::empty(),
@@ -53,13 +53,13 @@ fn is_border(border: i32, k: u32) -> bool
 }
 
 // The record, time grid and end of the frame at a bit position; a refusal moves neither position nor carried border.
-pub fn read_grid(buf: &[u8], pos: usize, num_time_slots: usize, carried: Carried) -> Reading
-    ensures { λ r. ⌜ r ≡ readingOf pos carried (readGrid (now (buf .entry)) pos «num_time_slots» (carried .border)) ⌝ }
+pub fn read_grid(buf: &[u8], pos: usize, num_time_slots: usize, carried: Carried) -> FrameRead
+    ensures { λ r. ⌜ r ≡ frameReadOf pos carried (readGrid (now (buf .entry)) pos «num_time_slots» (carried .border)) ⌝ }
 {
     if !sbr_grid::is_slot_count(num_time_slots) {
         return refusal(Refusal::SlotCount, pos, carried);
     }
-    let window = bits_peek::peek_bits(buf, pos);
+    let window = bits::peek_bits(buf, pos);
     let parsed = sbr_parse::sbr_grid(window);
     let answer = parsed.answer;
     if let Answer::Refused(why) = answer {
@@ -77,7 +77,7 @@ pub fn read_grid(buf: &[u8], pos: usize, num_time_slots: usize, carried: Carried
         return refusal(Refusal::Chain, pos, carried);
     }
     let le = grid.num_env;
-    Reading {
+    FrameRead {
         answer: Answer::Given,
         grid,
         time,

@@ -9,7 +9,7 @@ use native.Mathlib.Omega.{arith}
 use borrow.Author.Tests.{le-leb, lt-leb}
 use lib.Dec.{leb}
 use lib.ListN.{length}
-use Rattle.sbr_qmf.specs.Qmf.{Samples}
+use Rattle.sbr_qmf.specs.Qmf.{SampleAt}
 use Rattle.sbr_bands.specs.Tables.{entry, top, Span, spansFrom, spans}
 use Rattle.sbr_means.specs.Means.{meanIn}
 use Rattle.sbr_resolution.specs.Resolution.{inside, isSpread, someSpread, electFreqRes}
@@ -85,7 +85,7 @@ found high low i e j t s h p q r before at =
       ]
     ]
 
-module _ (x : Samples) (high low : List ℕ) (env : Span) where
+module _ (x : SampleAt) (high low : List ℕ) (env : Span) where
   -- whether a low band from the one that ends at entry j on is spread
   abbrev pub spreadFrom : ℕ → Bool
   spreadFrom j = someSpread x (spans high) env (spansFrom low (j - 1) (length low - j))

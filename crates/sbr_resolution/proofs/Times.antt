@@ -1,14 +1,12 @@
 -- What an answered time grid gives the envelopes: how many there are, and borders that rise within the samples.
-use mathlib.Core.Path.{_≡_, refl}
+use mathlib.Core.Path.{_≡_}
 use mathlib.Core.Bool.{and-eq-true-iff}
 use mathlib.Core.List.{List}
 use Prim.Native.Nat.{ℕ, _+_, _-_, _≤_, _<_}
 use native.Mathlib.Omega.{arith}
 use lib.ListN.{length, getD}
-use Rattle.sbr_grid.specs.declared.Answer.the-variants.{Given, Refused}
-use Rattle.sbr_grid.specs.declared.Refusal.{Refusal}
 use Rattle.sbr_grid.specs.declared.SbrGrid.{SbrGrid}
-use Rattle.sbr_grid.specs.Refusals.{Outcome, answered, refused, answerOf}
+use Rattle.sbr_grid.specs.Refusals.{answered}
 use Rattle.sbr_grid.specs.Grid.{first, Grid, numEnv, viewOf}
 use Rattle.sbr_grid.proofs.Laws.{first-first, getD-first, lengths}
 use Rattle.sbr_time_grid.specs.declared.Derived.{Derived}

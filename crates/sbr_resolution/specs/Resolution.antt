@@ -7,7 +7,7 @@ use lib.Dec.{leb, ltb}
 use lib.ListN.{length}
 use lib.Ieee as Ieee
 use lib.Ieee.{Float, inf, binary64}
-use Rattle.sbr_qmf.specs.Qmf.{Samples as SampleAt}
+use Rattle.sbr_qmf.specs.Qmf.{SampleAt}
 use Rattle.sbr_floats.specs.Floats.{zero64, floor64, maxOf, minOf, spreadIsHigh}
 use Rattle.sbr_bands.specs.Tables.{tablesFit, Span, spans}
 use Rattle.sbr_means.specs.Means.{meanIn}

@@ -1,34 +1,32 @@
 -- One frame: what a turn that answers says, and that a receiver which stands at its bits reads it.
 use mathlib.Core.Path.{_≡_, refl, sym, ap, _∙_, subst}
 use mathlib.Core.Bool.{Bool, true, false, cond}
-use mathlib.Core.List.{List, [], _∷_, _++_}
-use Prim.Native.Nat.{ℕ, zero, suc, _+_, _-_, _*_, _^_, _≤_, _<_, min}
-use native.Mathlib.Nat.{add-zero, add-suc, suc-add}
+use mathlib.Core.List.{List, _++_}
+use Prim.Native.Nat.{ℕ, zero, suc, _+_, _-_, _≤_}
 use native.Mathlib.Omega.{arith}
 use borrow.Author.Tests.{le-ltb}
 use lib.Dec.{T, eqb, eqb-refl}
-use lib.IntN.{ℤ, pos}
-use lib.ListN.{length, drop, getD, length-append}
-use Rattle.bits.specs.Bits.{bitsAt, putBits}
-use Rattle.bits.specs.Room.{endOf, roomFor, bitsFrom}
-use Rattle.bits.proofs.Stream.{length-bitsAt}
+use lib.IntN.{pos}
+use lib.ListN.{length, getD, length-append}
+use Rattle.bits.specs.Bits.{putBits}
+use Rattle.bits.specs.Room.{roomFor, bitsFrom}
 use Rattle.bits.proofs.Room.{room}
-use Rattle.sbr_grid.specs.declared.Refusal.the-variants.{SlotCount, Room, Unwritable}
+use Rattle.sbr_grid.specs.declared.Refusal.the-variants.{Room, Record}
 use Rattle.sbr_grid.specs.Refusals.{Outcome, answered, refused}
 use Rattle.sbr_grid.specs.Grid.{Grid, numEnv}
-use Rattle.sbr_chosen.proofs.Every.{is-true}
+use Rattle.sbr_choice.proofs.Every.{is-true}
 use Rattle.sbr_grid.specs.Times.{Times, slotCount}
 use Rattle.sbr_time_grid.specs.TimeGrid.{timeGrid}
 use Rattle.sbr_time_grid.proofs.Ends.{time-ends, time-passes}
 use Rattle.sbr_writer.specs.Syntax.{gridBits}
 use Rattle.sbr_writer.specs.Write.{Wrote, writable, writeGrid}
 use Rattle.sbr_parse.specs.Syntax.{sbrGrid}
-use Rattle.sbr_reader.specs.Read.{Frame, isBorder, meets, timed, parsed, readGrid}
+use Rattle.sbr_reader.specs.Read.{Accepted, meets, timed, parsed, readGrid}
 use Rattle.sbr_onsets.specs.Onsets.{leadOf}
-use Rattle.sbr_encoder.specs.Election.{Elected, elect}
-use Rattle.sbr_encoder.specs.Claims.{Sent as SentRecord}
-use Rattle.sbr_encoder.proofs.Elections.{every-election}
-use Rattle.sbr_run.specs.Run.{Turn, Sent, Turned, next, turn, Terms, State, HandsIn, firstBorder, lastBorder, Meets}
+use Rattle.sbr_encoder.specs.Election.{Elected}
+use Rattle.sbr_encoder.specs.Electable.{Electable}
+use Rattle.sbr_run.specs.Run.{Turn, Sent, Turned, next, turn, Terms, Choosing, State, HandsIn, firstBorder, lastBorder, Meets}
+use Rattle.sbr_run.specs.Term3.{SoundChoice}
 
 -- ---- a turn that answers
 
@@ -39,7 +37,7 @@ next-answered (refused r) f b e = let z : _≡_ {A = ℕ} 0 1 = cc in absurd (om
 
 pub record Calls (t : Turn) (a : Turned) : Type 0 where
   pub elected : Elected
-  pub elects : elect (t .slots) (t .high) (t .low) (t .samples) (t .previous) (t .variable) ≡ answered elected
+  pub chose : t .chosen ≡ answered elected
   pub same : elected .grid ≡ a .sent .grid
   pub times : timeGrid (t .timeSlots) (a .sent .grid) ≡ answered (a .sent .time)
   pub writes : writeGrid (t .bytes) (t .position) (a .sent .grid) ≡ answered (a .wrote)
@@ -59,7 +57,7 @@ calls t a e =
     let g : p .0 .grid ≡ a .sent .grid = ap (λ (x : Turned). x .sent .grid) l in
     record {
       elected = p .0;
-      elects = p .1;
+      chose = p .1;
       same = g;
       times = ap (timeGrid (t .timeSlots)) (sym g) ∙ q .1 ∙ ap (λ (x : Turned). answered (x .sent .time)) l;
       writes = ap (writeGrid (t .bytes) (t .position)) (sym g) ∙ r .1 ∙ ap (λ (x : Turned). answered (x .wrote)) l;
@@ -74,7 +72,7 @@ pub record Put (l : List ℕ) (p : ℕ) (g : Grid) (w : Wrote) : Type 0 where
 
 put-by : (bytes : List ℕ) (p : ℕ) (g : Grid) (w v : Wrote) (a b : Bool) → writable g ≡ a → roomFor (length bytes) p (length (gridBits g)) ≡ b
     → v ≡ record { bytes = putBits bytes p (gridBits g); position = p + length (gridBits g) }
-    → cond a (cond b (answered v) (refused Room)) (refused Unwritable) ≡ answered w → Put bytes p g w
+    → cond a (cond b (answered v) (refused Room)) (refused Record) ≡ answered w → Put bytes p g w
 put-by bytes p g w v true true x y z e =
     let s : v ≡ w = cc in
     record { fits = x; room = y; bytes = ap (λ (u : Wrote). u .bytes) (sym s ∙ z); position = ap (λ (u : Wrote). u .position) (sym s ∙ z) }
@@ -95,7 +93,7 @@ pub record Good (n b : ℕ) (f : Sent) : Type 0 where
   pub last : getD (f .time .tE) (numEnv (f .grid)) 0 ≡ lastBorder (f .time)
 
 -- what its reading gives
-abbrev pub got : Sent → ℕ → Frame
+abbrev pub got : Sent → ℕ → Accepted
 got f q = record { grid = f .grid; time = f .time; position = q + length (gridBits (f .grid)); border = lastBorder (f .time) }
 
 -- a receiver that stands at its bits, with the border that it meets, reads it
@@ -111,7 +109,7 @@ read-ok n b q bytes f rest h e =
     ∙ ap (timed n (pos b) (f .grid) (q + (length (bitsFrom bytes q) - length rest))) (m .derived)
     ∙ rw (test, len, h .last) refl)
 
--- ---- an elected frame is one
+-- ---- a chosen frame is one
 
 -- what the run carries is within reach
 pub record InReach (n : ℕ) (s : State) : Type 0 where
@@ -123,30 +121,29 @@ lead-is : (n b : ℕ) → n ≤ b → b ≤ n + 3 → leadOf n (pos b) + n ≡ b
 lead-is zero b l u = omega arith
 lead-is (suc n) b l u = rw (le-ltb b (suc n) l) (omega arith)
 
--- a turn that answers and hands in the run's things sends such a frame
-pub good-frame : (r : Terms) (s : State) (t : Turn) (a : Turned) → InReach (r .slots) s → HandsIn r s t → turn t ≡ answered a → Good (r .slots) (s .border) (a .sent)
-good-frame r s t a i h e =
-    let c = calls t a e in
-    let n = r .slots in
-    let el : elect n (t .high) (t .low) (t .samples) (pos (s .border)) (t .variable) ≡ answered (c .elected) =
-    subst (λ (k : ℕ). elect k (t .high) (t .low) (t .samples) (pos (s .border)) (t .variable) ≡ answered (c .elected)) (h .slots)
-    (subst (λ (z : ℤ). elect (t .slots) (t .high) (t .low) (t .samples) z (t .variable) ≡ answered (c .elected)) (h .previous) (c .elects)) in
-    let sr : SentRecord n (leadOf n (pos (s .border))) (a .sent .grid) =
-    subst (λ (g : Grid). SentRecord n (leadOf n (pos (s .border))) g) (c .same)
-    (every-election n (t .high) (t .low) (t .samples) (pos (s .border)) (t .variable) (c .elected) el) in
-    let tm : timeGrid n (a .sent .grid) ≡ answered (a .sent .time) =
-    subst (λ (k : ℕ). timeGrid k (a .sent .grid) ≡ answered (a .sent .time)) (h .timeSlots) (c .times) in
-    let same : sr .time ≡ a .sent .time = cc (sr .derived, tm) in
-    let ends = time-ends n (a .sent .grid) (a .sent .time) tm in
-    let last : getD (a .sent .time .tE) (numEnv (a .sent .grid)) 0 ≡ lastBorder (a .sent .time) = ap (λ (k : ℕ). getD (a .sent .time .tE) k 0) (omega (arith, ends .count)) in
+-- a record that is sound from the lead gives one
+good-by : (n : ℕ) (s : State) (f : Sent) → InReach n s → Electable n (leadOf n (pos (s .border))) (f .grid) → timeGrid n (f .grid) ≡ answered (f .time) → Good n (s .border) f
+good-by n s f i sr tm =
+    let same : sr .time ≡ f .time = cc (sr .derived, tm) in
+    let ends = time-ends n (f .grid) (f .time) tm in
+    let last : getD (f .time .tE) (numEnv (f .grid)) 0 ≡ lastBorder (f .time) = ap (λ (k : ℕ). getD (f .time .tE) k 0) (omega (arith, ends .count)) in
     record {
-      slots = time-passes n (a .sent .grid) (a .sent .time) tm .slots;
+      slots = time-passes n (f .grid) (f .time) tm .slots;
       frame-meets = record {
         derived = tm;
         begins = ap (λ (k : ℕ). k + n) (ap (λ (x : Times). getD (x .tE) 0 0) (sym same) ∙ sr .starts) ∙ lead-is n (s .border) (i .from) (i .by);
-        from = omega (arith, sr .ends-from, last, ap (λ (x : Times). getD (x .tE) (numEnv (a .sent .grid)) 0) same);
-        by = omega (arith, sr .ends-by, last, ap (λ (x : Times). getD (x .tE) (numEnv (a .sent .grid)) 0) same);
+        from = omega (arith, sr .ends-from, last, ap (λ (x : Times). getD (x .tE) (numEnv (f .grid)) 0) same);
+        by = omega (arith, sr .ends-by, last, ap (λ (x : Times). getD (x .tE) (numEnv (f .grid)) 0) same);
       };
       reads = sr .reads;
       last = last;
     }
+
+-- so a turn that answers and hands in the run's things sends such a frame
+pub good-frame : (By : Choosing) → SoundChoice By → (r : Terms) (s : State) (t : Turn) (a : Turned) → InReach (r .slots) s → HandsIn By r s t → turn t ≡ answered a → Good (r .slots) (s .border) (a .sent)
+good-frame By sound r s t a i h e =
+    let c = calls t a e in
+    let z = pos (s .border) in
+    good-by (r .slots) s (a .sent) i
+    (subst (λ (g : Grid). Electable (r .slots) (leadOf (r .slots) z) g) (c .same) (sound r z (c .elected) (subst (By r z) (c .chose) (h .chosen))))
+    (subst (λ (k : ℕ). timeGrid k (a .sent .grid) ≡ answered (a .sent .time)) (h .timeSlots) (c .times))

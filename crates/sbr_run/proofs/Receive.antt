@@ -6,17 +6,17 @@ use Prim.Native.Nat.{ℕ, zero, suc, _+_, _-_, _≤_, _<_}
 use native.Mathlib.Nat.{add-zero, add-suc, suc-add}
 use native.Mathlib.Omega.{arith}
 use lib.IntN.{pos}
-use lib.ListN.{length, take, drop, getD, length-append}
-use lib.Seq.{drop-append-seam, drop-cons, drop-nil}
+use lib.ListN.{length, take, drop, length-append}
+use lib.Seq.{drop-append-seam}
 use Rattle.bits.specs.Bits.{bitsAt}
-use Rattle.bits.specs.Room.{endOf, bitsFrom}
+use Rattle.bits.specs.Room.{endOf}
 use Rattle.sbr_grid.specs.declared.Refusal.{Refusal}
 use Rattle.sbr_grid.specs.Refusals.{Outcome, answered, refused}
 use Rattle.sbr_writer.specs.Syntax.{gridBits}
-use Rattle.sbr_reader.specs.Read.{Frame, readGrid}
-use Rattle.sbr_run.specs.Run.{Sent, lastBorder, Terms, frameOf, stream}
+use Rattle.sbr_reader.specs.Read.{Accepted, readGrid}
+use Rattle.sbr_run.specs.Run.{Sent, Terms, frameOf, stream}
 use Rattle.sbr_run.specs.Readings.{Reading, reading, Receiver, heard, listened, noted, read, inTerms, OwnReading, Readings, Holds}
-use Rattle.sbr_run.specs.Claim.{ReadBack}
+use Rattle.sbr_run.specs.Term3.{ReadBack}
 use Rattle.sbr_run.proofs.OneFrame.{Good, got, read-ok}
 use Rattle.sbr_run.proofs.Transmit.{GoodChain}
 
@@ -58,7 +58,7 @@ abbrev Hears : ℕ → List ℕ → List Reading → Type 0
 Hears n bytes rs = (c : Receiver) (fs : List Sent) (e : ℕ) → GoodChain n (c .border) fs e → Holds bytes (c .position) (stream fs) → Readings n bytes c rs → length (read rs) ≤ length fs → Heard n bytes c rs fs e
 
 -- the same, by what the first reading comes to
-record By (n : ℕ) (bytes : List ℕ) (c : Receiver) (rs : List Reading) (fs : List Sent) (e : ℕ) (o : Outcome Frame) : Type 0 where
+record By (n : ℕ) (bytes : List ℕ) (c : Receiver) (rs : List Reading) (fs : List Sent) (e : ℕ) (o : Outcome Accepted) : Type 0 where
   frames : noted o (read rs) ≡ take (length (noted o (read rs))) fs
   chain : GoodChain n (listened (heard c o) rs .border) (drop (length (noted o (read rs))) fs) e
   holds : Holds bytes (listened (heard c o) rs .position) (stream (drop (length (noted o (read rs))) fs))
@@ -77,13 +77,13 @@ gives n bytes rs ih c f fs e g h own l =
     }
 
 more : (n : ℕ) (bytes : List ℕ) (r : Reading) (rs : List Reading) → Hears n bytes rs → (c : Receiver) (fs : List Sent) (e : ℕ) → GoodChain n (c .border) fs e → Holds bytes (c .position) (stream fs)
-    → (o : Outcome Frame) → reading r ≡ o → OwnReading n bytes c r o → Readings n bytes (heard c o) rs → length (noted o (read rs)) ≤ length fs → By n bytes c rs fs e o
+    → (o : Outcome Accepted) → reading r ≡ o → OwnReading n bytes c r o → Readings n bytes (heard c o) rs → length (noted o (read rs)) ≤ length fs → By n bytes c rs fs e o
 more n bytes r rs ih c fs e g h (refused x) q own rest l =
     let d = ih c fs e g h rest l in record { frames = d .frames; chain = d .chain; holds = d .holds; passed = d .passed }
 more n bytes r rs ih c [] e g h (answered a) q own rest l = absurd (omega arith)
 more n bytes r rs ih c (f ∷ fs) e g h (answered a) q own rest l =
     let is : got f (c .position) ≡ a = cc (sym (front n (c .border) (c .position) bytes f fs (g .0) h) ∙ ap reading (sym own) ∙ q) in
-    subst (λ (x : Frame). Readings n bytes (heard c (answered x)) rs → By n bytes c rs (f ∷ fs) e (answered x)) is
+    subst (λ (x : Accepted). Readings n bytes (heard c (answered x)) rs → By n bytes c rs (f ∷ fs) e (answered x)) is
     (λ own′. gives n bytes rs ih c f fs e g h own′ (omega arith)) rest
 
 pub hears : (n : ℕ) (bytes : List ℕ) (rs : List Reading) → Hears n bytes rs

@@ -1,22 +1,21 @@
 -- Term 3.
 use mathlib.Core.Path.{_≡_, refl, sym, ap, _∙_, subst}
 use mathlib.Core.Bool.{Bool, true, false, cond}
-use mathlib.Core.List.{List, [], _∷_, _++_, map, append-assoc, append-nil}
-use Prim.Native.Nat.{ℕ, zero, suc, _+_, _-_, _≤_, _<_}
+use mathlib.Core.List.{List, [], _∷_, _++_, append-assoc, append-nil}
+use Prim.Native.Nat.{ℕ, zero, suc, _+_, _-_, _<_}
 use native.Mathlib.Omega.{arith}
 use lib.Dec.{leb}
 use lib.ListN.{length, getD, length-append, length-map}
 use lib.Ieee.{Float}
 use Rattle.bits.specs.Room.{roomFor}
-use Rattle.bits.specs.Bits.{putBits}
 use Rattle.sbr_grid.specs.declared.Refusal.{Refusal}
-use Rattle.sbr_grid.specs.declared.Refusal.the-variants.{SlotCount, Samples, Tables, Room, Unwritable}
+use Rattle.sbr_grid.specs.declared.Refusal.the-variants.{SlotCount, Samples, Tables, Room, Record}
 use Rattle.sbr_grid.specs.Refusals.{Outcome, answered, refused}
-use Rattle.sbr_grid.specs.Grid.{Grid, numEnv}
+use Rattle.sbr_grid.specs.Grid.{Grid}
 use Rattle.sbr_grid.specs.Times.{Times, slotCount}
 use Rattle.sbr_time_grid.specs.TimeGrid.{timeGrid}
 use Rattle.sbr_time_grid.proofs.Ends.{time-ends}
-use Rattle.sbr_qmf.specs.Qmf.{Samples as SampleAt, columns}
+use Rattle.sbr_qmf.specs.Qmf.{SampleAt, columns}
 use Rattle.sbr_writer.specs.Syntax.{gridBits}
 use Rattle.sbr_writer.specs.Write.{Wrote, writable, writeGrid}
 use Rattle.sbr_parse.specs.Syntax.{sbrGrid}
@@ -24,15 +23,15 @@ use Rattle.sbr_bands.specs.Tables.{tablesFit, Span, spans}
 use Rattle.sbr_envelopes.specs.Envelopes.{samplesNeeded, row, rows, rowsOf, energies}
 use Rattle.sbr_means.specs.Means.{meanIn}
 use Rattle.sbr_means.proofs.Spans.{spans-length}
-use Rattle.sbr_encoder.proofs.Elections.{every-election}
-use Rattle.sbr_run.specs.Run.{Turn, Sent, Terms, State, lastBorder, after, sent, Run, rowLengths, Frame, frameOf, stream}
-use Rattle.sbr_run.specs.Claim.{Sendable, Differ, Apart, sumOf, Term3}
+use Rattle.sbr_encoder.proofs.EveryElection.{every-election}
+use Rattle.sbr_run.specs.Run.{Turn, Sent, Terms, Elects, State, lastBorder, after, sent, Run, rowLengths, Frame, frameOf, stream}
+use Rattle.sbr_run.specs.Term3.{Differ, sumOf, Term3, SoundChoice, EveryCall}
 use Rattle.sbr_run.proofs.OneFrame.{Good}
-use Rattle.sbr_run.proofs.Transmit.{GoodChain, run-left, written}
+use Rattle.sbr_run.proofs.Transmit.{GoodChain, Left, run-left, written}
 use Rattle.sbr_run.proofs.Receive.{read-back-by}
 
 -- a writable record is refused for room only
-room-by : (g : Grid) (w : Wrote) (e : Refusal) (a b : Bool) → a ≡ true → _≡_ {A = Outcome Wrote} (cond a (cond b (answered w) (refused Room)) (refused Unwritable)) (refused e) → e ≡ Room
+room-by : (g : Grid) (w : Wrote) (e : Refusal) (a b : Bool) → a ≡ true → _≡_ {A = Outcome Wrote} (cond a (cond b (answered w) (refused Room)) (refused Record)) (refused e) → e ≡ Room
 room-by g w e true true p q = let z : _≡_ {A = ℕ} 0 1 = cc in absurd (omega arith)
 room-by g w e true false p q = cc
 room-by g w e false b p q = let z : _≡_ {A = ℕ} 0 1 = cc in absurd (omega arith)
@@ -124,19 +123,28 @@ energies-count n high low x g room es e = count-by n high low x g room es (slotC
 
 -- ---- the claim
 
+pub every-call : EveryCall
+every-call By sound =
+    let left : (r : Terms) (s : State) (ts : List Turn) → Run By r s ts → Left (r .slots) s (after s ts) (sent ts) = run-left By sound in
+    record {
+      sendable = λ r previous e a.
+          let s = sound r previous e a in
+          record { timed = (s .time, s .derived); room-only = room-only (e .grid) (s .fits) };
+      written = λ r s ts u. written r s ts (left r s ts u);
+      read-back = λ r s ts u bytes q h rs own. read-back-by r (sent ts) (s .border) (after s ts .border) bytes q rs (left r s ts u .chain) h own;
+      energies-count = energies-count;
+      apart = λ r r′ s s′ ts ts′ u u′ same i d h k ne.
+          let c = left r s ts u .chain in
+          let c′ = left r′ s′ ts′ u′ .chain in
+          record {
+            first = apart-by r r′ (s .border) (s′ .border) (after s ts .border) (after s′ ts′ .border) (sent ts) (sent ts′) same c c′ i d h k ne;
+            second = apart-by r′ r (s′ .border) (s .border) (after s′ ts′ .border) (after s ts .border) (sent ts′) (sent ts) (sym same) c′ c i d k h (differ-sym (frameOf r (getD (sent ts) i d)) (frameOf r′ (getD (sent ts′) i d)) ne);
+          };
+    }
+
+-- elections are sound
+pub elects-sound : SoundChoice Elects
+elects-sound r previous e c = every-election (r .slots) (r .high) (r .low) (c .samples) previous (c .variable) e (sym (c .is))
+
 pub term3 : Term3
-term3 = record {
-  sendable = λ n high low x previous variable e a.
-      let s = every-election n high low x previous variable e a in
-      record { timed = (s .time, s .derived); room-only = room-only (e .grid) (s .fits) };
-  written = written;
-  read-back = λ r s ts u bytes q h rs own. read-back-by r (sent ts) (s .border) (after s ts .border) bytes q rs (run-left r s ts u .chain) h own;
-  energies-count = energies-count;
-  apart = λ r r′ s s′ ts ts′ u u′ same i d h k ne.
-      let c = run-left r s ts u .chain in
-      let c′ = run-left r′ s′ ts′ u′ .chain in
-      record {
-        first = apart-by r r′ (s .border) (s′ .border) (after s ts .border) (after s′ ts′ .border) (sent ts) (sent ts′) same c c′ i d h k ne;
-        second = apart-by r′ r (s′ .border) (s .border) (after s′ ts′ .border) (after s ts .border) (sent ts′) (sent ts) (sym same) c′ c i d k h (differ-sym (frameOf r (getD (sent ts) i d)) (frameOf r′ (getD (sent ts′) i d)) ne);
-      };
-}
+term3 = every-call Elects elects-sound

@@ -1,11 +1,12 @@
 -- A list of turns: what it leaves.
 use mathlib.Core.Path.{_≡_, refl, sym, ap, _∙_, subst}
-use mathlib.Core.Bool.{Bool, true}
-use mathlib.Core.List.{List, [], _∷_, _++_, append-assoc}
-use Prim.Native.Nat.{ℕ, zero, suc, _+_, _-_, _*_, _^_, _≤_, _<_, min}
+use mathlib.Core.Bool.{Bool}
+use mathlib.Core.List.{List, [], _∷_, _++_}
+use Prim.Native.Nat.{ℕ, _+_, _-_, _*_, _^_, _≤_, _<_, min}
 use native.Mathlib.Nat.{add-zero}
 use native.Mathlib.Omega.{arith}
-use lib.ListN.{length, getD, length-append}
+use lib.IntN.{ℤ}
+use lib.ListN.{length, length-append}
 use Rattle.bits.specs.Bits.{bitsAt, putBits}
 use Rattle.bits.specs.Room.{endOf, bitsFrom}
 use Rattle.bits.proofs.Stream.{length-putBits, put-append, bitsAt-add, kept-before, bits-put}
@@ -13,10 +14,10 @@ use Rattle.bits.proofs.After.{kept-after}
 use Rattle.bits.proofs.Room.{room}
 use Rattle.sbr_grid.specs.Refusals.{Outcome, answered, refused}
 use Rattle.sbr_writer.specs.Syntax.{gridBits}
-use Rattle.sbr_writer.specs.Write.{Wrote}
-use Rattle.sbr_run.specs.Run.{Turn, Sent, Turned, turn, Terms, State, lastBorder, moved, after, counted, sent, HandsIn, OwnTurn, Turns, Run, stream, Chain}
+use Rattle.sbr_encoder.specs.Election.{Elected}
+use Rattle.sbr_run.specs.Run.{Turn, Sent, Turned, turn, Terms, Choosing, State, lastBorder, moved, after, counted, sent, OwnTurn, Turns, Run, stream, Chain}
 use Rattle.sbr_run.specs.Readings.{Holds}
-use Rattle.sbr_run.specs.Claim.{Written}
+use Rattle.sbr_run.specs.Term3.{Transmitted, SoundChoice}
 use Rattle.sbr_run.proofs.OneFrame.{calls, puts, Good, InReach, good-frame}
 
 -- frames that a receiver can read, each from where the one before ended
@@ -62,29 +63,29 @@ left-more n s z f fs g a w =
     }
 
 -- one turn, by what it comes to
-step : (r : Terms) (s z : State) (t : Turn) (fs : List Sent) (o : Outcome Turned) → InReach (r .slots) s → turn t ≡ o → OwnTurn r s t o → Left (r .slots) (moved s o) z fs
+step : (By : Choosing) → SoundChoice By → (r : Terms) (s z : State) (t : Turn) (fs : List Sent) (o : Outcome Turned) → InReach (r .slots) s → turn t ≡ o → OwnTurn By r s t o → Left (r .slots) (moved s o) z fs
     → Left (r .slots) s z (counted o fs)
-step r s z t fs (refused e) i q own w = w
-step r s z t fs (answered a) i q own w =
+step By sound r s z t fs (refused e) i q own w = w
+step By sound r s z t fs (answered a) i q own w =
     let p = puts (t .bytes) (t .position) (a .sent .grid) (a .wrote) (calls t a q .writes) in
     let k = room (length (t .bytes)) (t .position) (length (gridBits (a .sent .grid))) (p .room) in
     let c = gridBits (a .sent .grid) in
     let bytes : a .wrote .bytes ≡ putBits (s .bytes) (s .position) c = p .bytes ∙ λ j. putBits (own .bytes j) (own .position j) c in
     let position : a .wrote .position ≡ s .position + length c = p .position ∙ ap (λ (x : ℕ). x + length c) (own .position) in
-    left-more (r .slots) s z (a .sent) fs (good-frame r s t a i own q)
+    left-more (r .slots) s z (a .sent) fs (good-frame By sound r s t a i own q)
     (omega (arith, k .within, k .holds, own .position, ap length (own .bytes)))
     (subst (λ (x : State). Left (r .slots) x z fs) (λ j. record { border = lastBorder (a .sent .time); position = position j; bytes = bytes j }) w)
 
 -- what is carried stays within reach
-reach : (r : Terms) (s : State) (t : Turn) (o : Outcome Turned) → InReach (r .slots) s → turn t ≡ o → OwnTurn r s t o → InReach (r .slots) (moved s o)
-reach r s t (refused e) i q own = i
-reach r s t (answered a) i q own = let m = good-frame r s t a i own q .frame-meets in record { from = m .from; by = m .by }
+reach : (By : Choosing) → SoundChoice By → (r : Terms) (s : State) (t : Turn) (o : Outcome Turned) → InReach (r .slots) s → turn t ≡ o → OwnTurn By r s t o → InReach (r .slots) (moved s o)
+reach By sound r s t (refused e) i q own = i
+reach By sound r s t (answered a) i q own = let m = good-frame By sound r s t a i own q .frame-meets in record { from = m .from; by = m .by }
 
-pub transmit : (r : Terms) (s : State) (ts : List Turn) → InReach (r .slots) s → Turns r s ts → Left (r .slots) s (after s ts) (sent ts)
-transmit r s [] i h = left-none (r .slots) s
-transmit r s (t ∷ ts) i h =
-    step r s (after (moved s (turn t)) ts) t (sent ts) (turn t) i refl (h .0)
-    (transmit r (moved s (turn t)) ts (reach r s t (turn t) i refl (h .0)) (h .1))
+pub transmit : (By : Choosing) → SoundChoice By → (r : Terms) (s : State) (ts : List Turn) → InReach (r .slots) s → Turns By r s ts → Left (r .slots) s (after s ts) (sent ts)
+transmit By sound r s [] i h = left-none (r .slots) s
+transmit By sound r s (t ∷ ts) i h =
+    step By sound r s (after (moved s (turn t)) ts) t (sent ts) (turn t) i refl (h .0)
+    (transmit By sound r (moved s (turn t)) ts (reach By sound r s t (turn t) i refl (h .0)) (h .1))
 
 -- ---- the bytes
 
@@ -107,15 +108,11 @@ holds-by n s z (f ∷ fs) w =
     let k = w .fits (omega arith) in
     subst (λ (m : List ℕ). Holds m (s .position) (stream (f ∷ fs))) (sym (w .bytes)) (held (s .bytes) (s .position) (stream (f ∷ fs)) (k .0) (k .1))
 
-pub run-reach : (r : Terms) (s : State) (ts : List Turn) → Run r s ts → InReach (r .slots) s
-run-reach r s ts u = record { from = u .from; by = u .by }
+pub run-left : (By : Choosing) → SoundChoice By → (r : Terms) (s : State) (ts : List Turn) → Run By r s ts → Left (r .slots) s (after s ts) (sent ts)
+run-left By sound r s ts u = transmit By sound r s ts (record { from = u .from; by = u .by }) (u .turns)
 
-pub run-left : (r : Terms) (s : State) (ts : List Turn) → Run r s ts → Left (r .slots) s (after s ts) (sent ts)
-run-left r s ts u = transmit r s ts (run-reach r s ts u) (u .turns)
-
-pub written : (r : Terms) (s : State) (ts : List Turn) → Run r s ts → Written r s ts
-written r s ts u =
-    let w = run-left r s ts u in
+pub written : (r : Terms) (s : State) (ts : List Turn) → Left (r .slots) s (after s ts) (sent ts) → Transmitted r s ts
+written r s ts w =
     let str = stream (sent ts) in
     record {
       chain = chain-of (r .slots) (s .border) (sent ts) (after s ts .border) (w .chain);
@@ -125,3 +122,18 @@ written r s ts u =
       behind = λ q k h. ap (λ (m : List ℕ). bitsAt m q k) (w .bytes) ∙ kept-after (s .bytes) (s .position) q k str (omega (arith, h, w .ends));
       size = ap length (w .bytes) ∙ length-putBits (s .bytes) (s .position) str;
     }
+
+-- ---- two calls
+
+-- where one choosing call comes to nothing that another may not come to, its runs are runs by the other
+module _ (By By′ : Choosing) (within : (r : Terms) (previous : ℤ) (o : Outcome Elected) → By r previous o → By′ r previous o) where
+  own-within : (r : Terms) (s : State) (t : Turn) (o : Outcome Turned) → OwnTurn By r s t o → OwnTurn By′ r s t o
+  own-within r s t (refused e) h = tt
+  own-within r s t (answered a) h = record { chosen = within r _ _ (h .chosen); timeSlots = h .timeSlots; bytes = h .bytes; position = h .position }
+
+  turns-within : (r : Terms) (s : State) (ts : List Turn) → Turns By r s ts → Turns By′ r s ts
+  turns-within r s [] h = tt
+  turns-within r s (t ∷ ts) h = (own-within r s t (turn t) (h .0), turns-within r (moved s (turn t)) ts (h .1))
+
+  pub run-within : (r : Terms) (s : State) (ts : List Turn) → Run By r s ts → Run By′ r s ts
+  run-within r s ts u = record { from = u .from; by = u .by; turns = turns-within r s ts (u .turns) }

@@ -1,7 +1,7 @@
 -- The ways out of a turn, one law for each, and what the program hands out for a frame that is sent.
 use mathlib.Core.Path.{_≡_, refl, sym, ap, _∙_}
 use mathlib.Core.Bool.{Bool}
-use Prim.Native.Nat.{ℕ, _+_, _-_, _≤_, _<_}
+use Prim.Native.Nat.{ℕ, _-_, _≤_}
 use native.Mathlib.Omega.{arith}
 use lib.IntN.{ℤ, pos}
 use lib.ListN.{length, getD}
@@ -20,35 +20,31 @@ use Rattle.sbr_time_grid.proofs.Ends.{time-ends, time-passes}
 use Rattle.sbr_writer.specs.declared.Written.the-variants.{To, Refused as NotWritten}
 use Rattle.sbr_writer.specs.Write.{Wrote, writeGrid, writtenOf}
 use Rattle.sbr_writer.proofs.Facts.{both, fields-told}
-use Rattle.sbr_reader.specs.declared.Reading.{Reading}
-use Rattle.sbr_reader.specs.Read.{Frame, readingOf}
+use Rattle.sbr_reader.specs.declared.FrameRead.{FrameRead}
+use Rattle.sbr_reader.specs.Read.{Accepted, frameReadOf}
 use Rattle.sbr_grid.proofs.Outcomes.{given-is}
 use Rattle.sbr_encoder.specs.declared.Election.{Election}
-use Rattle.sbr_encoder.specs.Election.{Elected, elect, electionOf}
-use Rattle.sbr_encoder.proofs.Elections.{every-election}
+use Rattle.sbr_encoder.specs.Election.{Elected, electionOf}
+use Rattle.sbr_encoder.specs.Electable.{Electable}
 use Rattle.sbr_run.specs.declared.Place.{Place}
 use Rattle.sbr_run.specs.declared.Sending.{Sending}
 use Rattle.sbr_run.specs.declared.Receiving.{Receiving}
 use Rattle.sbr_run.specs.Run.{Turn, Turned, turn, lastBorder}
-use Rattle.sbr_run.specs.Forms.{sendingOf, receivingOf}
+use Rattle.sbr_run.specs.Place.{sendingOf, receivingOf}
 
 -- ---- the ways out
-
--- what the election of a turn comes to
-abbrev pub electing : Turn → Outcome Elected
-electing t = elect (t .slots) (t .high) (t .low) (t .samples) (t .previous) (t .variable)
 
 -- what a turn comes to, from what its calls answer
 abbrev pub turned : Elected → Times → Wrote → Turned
 turned e tm w = record { sent = record { grid = e .grid; time = tm }; transient = e .transient; wrote = w }
 
 module _ (t : Turn) where
-  -- the election refuses
-  pub elect-refuses : (w : Refusal) → electing t ≡ refused w → turn t ≡ refused w
+  -- the choosing call refuses
+  pub choice-refuses : (w : Refusal) → t .chosen ≡ refused w → turn t ≡ refused w
   unfolding turn
-  elect-refuses w a = rw a
+  choice-refuses w a = rw a
 
-  module _ (e : Elected) (a : electing t ≡ answered e) where
+  module _ (e : Elected) (a : t .chosen ≡ answered e) where
     module _ (tm : Times) (b : timeGrid (t .timeSlots) (e .grid) ≡ answered tm) where
       -- the writer refuses it
       pub write-refuses : (w : Refusal) → writeGrid (t .bytes) (t .position) (e .grid) ≡ refused w → turn t ≡ refused w
@@ -62,20 +58,20 @@ module _ (t : Turn) where
 
 -- ---- what the calls hand out where they answer
 
--- a record whose view is the elected grid, which has a time grid
-pub record Chosen (t : Turn) (r : Election) : Type 0 where
+-- a record whose view is the chosen grid, which has a time grid
+pub record Chosen (n : ℕ) (o : Outcome Elected) (r : Election) : Type 0 where
   pub elected : Elected
-  pub is : electing t ≡ answered elected
+  pub is : o ≡ answered elected
   pub whole : r ≡ electionOf (answered elected)
   pub view : viewOf (r .grid) ≡ elected .grid
-  pub time : (m : Times) × (timeGrid (t .slots) (elected .grid) ≡ answered m)
+  pub time : (m : Times) × (timeGrid n (elected .grid) ≡ answered m)
 
-pub chosen : (t : Turn) (r : Election) → r ≡ electionOf (electing t) → r .answer ≡ Given → Chosen t r
-chosen t r e g =
-    let o = given-is (electing t) (ap (λ (x : Election). x .answer) (sym e) ∙ g) in
+pub chosen : (n lead : ℕ) (o : Outcome Elected) (r : Election) → ((e : Elected) → o ≡ answered e → Electable n lead (e .grid)) → r ≡ electionOf o → r .answer ≡ Given → Chosen n o r
+chosen n lead c r sound e g =
+    let o = given-is c (ap (λ (x : Election). x .answer) (sym e) ∙ g) in
     let w = e ∙ ap electionOf (o .1) in
     let h = o .0 .grid in
-    let s = every-election _ _ _ _ _ _ (o .0) (o .1) in
+    let s = sound (o .0) (o .1) in
     let f = fields-told h (both _ _ (s .fits) .0) in
     record {
       elected = o .0;
@@ -129,9 +125,9 @@ pub sent-is : (p : Place) (a : Turned) (g : SbrGrid) (t : TimeGrid) (b : Bool) (
 sent-is p a g t b z q c d e f h = rw (c, d, e, f, h)
 
 -- for a reading
-abbrev pub received : Reading → Receiving
+abbrev pub received : FrameRead → Receiving
 received r = record { answer = r .answer; grid = r .grid; time = r .time; place = record { carried = r .carried; position = r .position } }
 
-pub received-is : (p : Place) (o : Outcome Frame) → received (readingOf (p .position) (p .carried) o) ≡ receivingOf p o
+pub received-is : (p : Place) (o : Outcome Accepted) → received (frameReadOf (p .position) (p .carried) o) ≡ receivingOf p o
 received-is p (answered f) = refl
 received-is p (refused w) = refl

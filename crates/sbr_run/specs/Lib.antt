@@ -1,4 +1,4 @@
 pub mod Run
 pub mod Readings
-pub mod Claim
-pub mod Forms
+pub mod Term3
+pub mod Place

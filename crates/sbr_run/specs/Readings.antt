@@ -6,7 +6,7 @@ use Prim.Native.Nat.{ℕ}
 use lib.IntN.{ℤ, pos}
 use Rattle.bits.specs.Room.{bitsFrom}
 use Rattle.sbr_grid.specs.Refusals.{Outcome, answered, refused}
-use Rattle.sbr_reader.specs.Read.{Frame, readGrid}
+use Rattle.sbr_reader.specs.Read.{Accepted, readGrid}
 use Rattle.sbr_run.specs.Run.{Sent}
 
 -- what a reading hands in
@@ -16,7 +16,7 @@ pub record Reading : Type 0 where
   pub slots : ℕ
   pub border : ℤ
 
-abbrev pub reading : Reading → Outcome Frame
+abbrev pub reading : Reading → Outcome Accepted
 reading r = readGrid (r .bytes) (r .position) (r .slots) (r .border)
 
 -- what a receiver keeps: border and position
@@ -25,7 +25,7 @@ pub record Receiver : Type 0 where
   pub position : ℕ
 
 -- a reading that answers leaves the frame's last border and the position after it; a refused one moves neither
-abbrev pub heard : Receiver → Outcome Frame → Receiver
+abbrev pub heard : Receiver → Outcome Accepted → Receiver
 heard c (answered f) = record { border = f .border; position = f .position }
 heard c (refused e) = c
 
@@ -34,7 +34,7 @@ listened c [] = c
 listened c (r ∷ rs) = listened (heard c (reading r)) rs
 
 -- the frames read, in order
-abbrev pub noted : Outcome Frame → List Sent → List Sent
+abbrev pub noted : Outcome Accepted → List Sent → List Sent
 noted (answered f) fs = record { grid = f .grid; time = f .time } ∷ fs
 noted (refused e) fs = fs
 
@@ -47,7 +47,7 @@ abbrev pub inTerms : ℕ → List ℕ → Receiver → Reading
 inTerms n bytes c = record { bytes = bytes; position = c .position; slots = n; border = pos (c .border) }
 
 -- readings that answer are so, refused ones hand in anything
-abbrev pub OwnReading : ℕ → List ℕ → Receiver → Reading → Outcome Frame → Type 0
+abbrev pub OwnReading : ℕ → List ℕ → Receiver → Reading → Outcome Accepted → Type 0
 OwnReading n bytes c r (answered f) = r ≡ inTerms n bytes c
 OwnReading n bytes c r (refused e) = Unit {0}
 

@@ -1,4 +1,5 @@
 -- A transmitter's run: document 01, "Runs, for term 3". The calls are those of the public contracts: `elect`, `timeGrid`, `writeGrid`.
+-- The call that chooses a turn's record is a parameter of the run. That of term 3 is the election, `Elects`.
 use mathlib.Core.Path.{_≡_}
 use mathlib.Core.Bool.{Bool, cond}
 use mathlib.Core.List.{List, [], _∷_, _++_, map}
@@ -13,18 +14,13 @@ use Rattle.sbr_grid.specs.Times.{Times}
 use Rattle.sbr_time_grid.specs.TimeGrid.{timeGrid}
 use Rattle.sbr_writer.specs.Syntax.{gridBits}
 use Rattle.sbr_writer.specs.Write.{Wrote, writeGrid}
-use Rattle.sbr_encoder.specs.Election.{elect}
+use Rattle.sbr_encoder.specs.Election.{Elected, elect}
 
 -- ---- a turn
 
--- what a turn hands in: to the election, to the time grid of the elected record, to its writing
+-- what a turn's choosing call comes to, and what is handed in to the time grid of that record and to its writing
 pub record Turn : Type 0 where
-  pub slots : ℕ
-  pub high : List ℕ
-  pub low : List ℕ
-  pub samples : List Float
-  pub previous : ℤ
-  pub variable : Bool
+  pub chosen : Outcome Elected
   pub timeSlots : ℕ
   pub bytes : List ℕ
   pub position : ℕ
@@ -48,18 +44,30 @@ next (refused e) f = refused e
 -- three calls; the one that refuses is the last
 unfoldable pub turn : Turn → Outcome Turned
 turn t =
-    next (elect (t .slots) (t .high) (t .low) (t .samples) (t .previous) (t .variable)) (λ e.
+    next (t .chosen) (λ e.
     next (timeGrid (t .timeSlots) (e .grid)) (λ tm.
     next (writeGrid (t .bytes) (t .position) (e .grid)) (λ w.
     answered (record { sent = record { grid = e .grid; time = tm }; transient = e .transient; wrote = w }))))
 
--- ---- lists of turns
+-- ---- choosing calls
 
 -- what a run keeps: its slot count and its tables
 pub record Terms : Type 0 where
   pub slots : ℕ
   pub high : List ℕ
   pub low : List ℕ
+
+-- a choosing call: what it may come to with the run's slot count and tables and a previous border; all else that it takes is free
+abbrev pub Choosing : Type 1
+Choosing = Terms → ℤ → Outcome Elected → Type 0
+
+-- the election: samples and switch are free
+pub record Elects (r : Terms) (previous : ℤ) (o : Outcome Elected) : Type 0 where
+  pub samples : List Float
+  pub variable : Bool
+  pub is : o ≡ elect (r .slots) (r .high) (r .low) samples previous variable
+
+-- ---- lists of turns
 
 -- what is carried from turn to turn: border, position and bytes
 pub record State : Type 0 where
@@ -92,30 +100,28 @@ abbrev pub sent : List Turn → List Sent
 sent [] = []
 sent (t ∷ ts) = counted (turn t) (sent ts)
 
--- the run's slot count and tables, and the border, position and bytes that the last turn left; samples and switch are free
-pub record HandsIn (r : Terms) (s : State) (t : Turn) : Type 0 where
-  pub slots : t .slots ≡ r .slots
-  pub high : t .high ≡ r .high
-  pub low : t .low ≡ r .low
-  pub previous : t .previous ≡ pos (s .border)
+-- the choosing call has the run's slot count and tables and the border that the last turn left, the time grid the slot count, the writing
+-- the bytes and the position that the last turn left
+pub record HandsIn (By : Choosing) (r : Terms) (s : State) (t : Turn) : Type 0 where
+  pub chosen : By r (pos (s .border)) (t .chosen)
   pub timeSlots : t .timeSlots ≡ r .slots
   pub bytes : t .bytes ≡ s .bytes
   pub position : t .position ≡ s .position
 
 -- turns that answer hand these in, refused ones anything
-abbrev pub OwnTurn : Terms → State → Turn → Outcome Turned → Type 0
-OwnTurn r s t (answered a) = HandsIn r s t
-OwnTurn r s t (refused e) = Unit {0}
+abbrev pub OwnTurn : Choosing → Terms → State → Turn → Outcome Turned → Type 0
+OwnTurn By r s t (answered a) = HandsIn By r s t
+OwnTurn By r s t (refused e) = Unit {0}
 
-abbrev pub Turns : Terms → State → List Turn → Type 0
-Turns r s [] = Unit {0}
-Turns r s (t ∷ ts) = OwnTurn r s t (turn t) × Turns r (moved s (turn t)) ts
+abbrev pub Turns : Choosing → Terms → State → List Turn → Type 0
+Turns By r s [] = Unit {0}
+Turns By r s (t ∷ ts) = OwnTurn By r s t (turn t) × Turns By r (moved s (turn t)) ts
 
 -- a run starts with a carried border from N to N + 3, any position and any bytes
-pub record Run (r : Terms) (s : State) (ts : List Turn) : Type 0 where
+pub record Run (By : Choosing) (r : Terms) (s : State) (ts : List Turn) : Type 0 where
   pub from : r .slots ≤ s .border
   pub by : s .border ≤ r .slots + 3
-  pub turns : Turns r s ts
+  pub turns : Turns By r s ts
 
 -- ---- frames and the stream
 

@@ -13,7 +13,7 @@ ghost use Rattle.sbr_grid.specs.declared.Answer.the-variants.{Given};
 ghost use Rattle.sbr_grid.specs.Refusals.{refused};
 ghost use Rattle.sbr_run.specs.Run.{turn};
 ghost use Rattle.sbr_run.specs.Readings.{reading};
-ghost use Rattle.sbr_run.specs.Forms.{turnFrom, sendingOf, bytesLeft, readingFrom, receivingOf};
+ghost use Rattle.sbr_run.specs.Place.{turnFrom, sendingOf, bytesLeft, readingFrom, receivingOf};
 
 // What is carried from frame to frame: the last border, and the bit position.
 pub struct Place {

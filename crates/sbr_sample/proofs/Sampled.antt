@@ -1,7 +1,7 @@
 -- The sample run is as stated: each turn is computed once.
 use mathlib.Core.Path.{_≡_, refl}
 use mathlib.Core.Bool.{Bool, true, false}
-use mathlib.Core.List.{List, [], _∷_, map}
+use mathlib.Core.List.{List, [], _∷_}
 use Prim.Native.Nat.{ℕ}
 use native.Mathlib.Omega.{arith}
 use lib.IntN.{ℤ, pos, negsuc}
@@ -9,16 +9,15 @@ use lib.Ieee as Ieee
 use lib.Ieee.{ofBits}
 use Rattle.bits.specs.Bits.{bitAt, withBit, getBit, putBit, putBits, bitsAt, bitsOf, numFrom}
 use Rattle.bits.specs.Room.{endOf, roomFor}
-use Rattle.sbr_grid.specs.declared.FrameClass.{FrameClass}
 use Rattle.sbr_grid.specs.declared.FrameClass.the-variants.{FixFix, FixVar, VarFix}
 use Rattle.sbr_grid.specs.declared.Refusal.the-variants.{SlotCount, Room}
 use Rattle.sbr_grid.specs.Refusals.{Outcome, answered, refused}
 use Rattle.sbr_grid.specs.Grid.{widthFrom, Grid, made}
 use Rattle.sbr_grid.specs.Times.{Times, slotCount}
-use Rattle.sbr_time_grid.specs.TimeGrid.{absBordLead, absBordTrail, nRelLead, nRelTrail, relBordLead, sum, listFrom, tE, rises, middleBorder, lA, countsFit, bordersFit, noiseFits, tQ, timeGrid}
+use Rattle.sbr_time_grid.specs.TimeGrid.{absBordLead, absBordTrail, nRelLead, nRelTrail, relBordLead, slotSum, listFrom, tE, rises, middleBorder, lA, countsFit, bordersFit, noiseFits, tQ, timeGrid}
 use Rattle.sbr_writer.specs.Syntax.{twos, bodyBits, gridBits}
 use Rattle.sbr_writer.specs.Write.{every, classFits, fieldsFit, writeGrid}
-use Rattle.sbr_parse.specs.Syntax.{_>>=_, flags, field, lengths, counted, behindCounts, fixFix, fixVar, varFix, sbrGrid}
+use Rattle.sbr_parse.specs.Syntax.{_followedBy_, flags, field, relBords, checkedCount, behindCounts, fixFix, fixVar, varFix, sbrGrid}
 use Rattle.sbr_reader.specs.Read.{meets, readGrid}
 use Rattle.sbr_qmf.specs.Qmf.{columns}
 use Rattle.sbr_floats.specs.Floats.{total, spreadIsHigh}
@@ -27,14 +26,14 @@ use Rattle.sbr_bands.specs.Tables.{among, drawn, highFits, lowFits, spansFrom}
 use Rattle.sbr_resolution.specs.Resolution.{inside, largestFrom, smallestFrom, isSpread, someSpread, electFreqRes}
 use Rattle.sbr_build.specs.Build.{fixfixGrid}
 use Rattle.sbr_attack.specs.Attack.{lateAttackVarvar, fixvarSegs, varfixSegs, fixvarGrid, varfixGrid, variableGrid, segmentsBy}
-use Rattle.sbr_chosen.specs.Elect.{attackGrid, plainGrid, chosenGrid}
+use Rattle.sbr_choice.specs.Choice.{attackGrid, plainGrid, chosenGrid}
 use Rattle.sbr_encoder.specs.Election.{elect}
-use Rattle.sbr_run.specs.Run.{Turn, Sent, Turned, State, Terms, turn, moved, after, counted as countedIn, sent, frameOf, HandsIn, OwnTurn, Turns}
-use Rattle.sbr_sample.specs.Sample.{terms, turnAt, start, afterOne, afterTwo, end, turns, frames, Sample}
+use Rattle.sbr_run.specs.Run.{Turned, State, Elects, turn, sent, HandsIn}
+use Rattle.sbr_sample.specs.Sample.{loudFrom, terms, turnAt, start, afterOne, afterTwo, end, turns, Sample}
 
 -- a turn of the sample with 16 slots hands in what is carried
-hands : (s : ℕ) (c : State) → HandsIn terms c (turnAt 16 s c)
-hands s c = record { slots = refl; high = refl; low = refl; previous = refl; timeSlots = refl; bytes = refl; position = refl }
+hands : (s : ℕ) (c : State) → HandsIn Elects terms c (turnAt 16 s c)
+hands s c = record { chosen = record { samples = loudFrom s; variable = true; is = refl }; timeSlots = refl; bytes = refl; position = refl }
 
 -- a turn that answered
 abbrev turned : Grid → Times → Bool → State → Outcome Turned
@@ -52,11 +51,11 @@ record Outcomes : Type 0 where
   five : turn (turnAt 16 24 end) ≡ refused Room
 
 outcomes : Outcomes
-unfolding columns total ofBits Ieee.add Ieee.mul Ieee.div Ieee.ofInt Ieee.lt Ieee.le Ieee.isNan peakOf isAttack onsetsFrom detectOnsets halvesAlike spreadIsHigh bitAt withBit getBit putBit putBits bitsAt bitsOf numFrom endOf roomFor widthFrom absBordLead absBordTrail nRelLead nRelTrail relBordLead sum listFrom tE rises middleBorder lA slotCount countsFit bordersFit noiseFits tQ timeGrid twos bodyBits gridBits every classFits fieldsFit writeGrid among drawn highFits lowFits spansFrom inside largestFrom smallestFrom isSpread someSpread electFreqRes fixfixGrid segmentsBy lateAttackVarvar fixvarSegs varfixSegs fixvarGrid varfixGrid variableGrid attackGrid plainGrid chosenGrid elect turn
+unfolding columns total ofBits Ieee.add Ieee.mul Ieee.div Ieee.ofInt Ieee.lt Ieee.le Ieee.isNan peakOf isAttack onsetsFrom detectOnsets halvesAlike spreadIsHigh bitAt withBit getBit putBit putBits bitsAt bitsOf numFrom endOf roomFor widthFrom absBordLead absBordTrail nRelLead nRelTrail relBordLead slotSum listFrom tE rises middleBorder lA slotCount countsFit bordersFit noiseFits tQ timeGrid twos bodyBits gridBits every classFits fieldsFit writeGrid among drawn highFits lowFits spansFrom inside largestFrom smallestFrom isSpread someSpread electFreqRes fixfixGrid segmentsBy lateAttackVarvar fixvarSegs varfixSegs fixvarGrid varfixGrid variableGrid attackGrid plainGrid chosenGrid elect turn
 outcomes = record { one = refl; two = refl; three = refl; four = refl; five = refl }
 
 pub sampled : Sample
-unfolding bitAt getBit bitsAt numFrom endOf widthFrom absBordLead absBordTrail nRelLead nRelTrail relBordLead sum listFrom tE rises middleBorder lA slotCount countsFit bordersFit noiseFits tQ timeGrid readGrid meets sbrGrid _>>=_ flags field lengths counted behindCounts fixFix fixVar varFix
+unfolding bitAt getBit bitsAt numFrom endOf widthFrom absBordLead absBordTrail nRelLead nRelTrail relBordLead slotSum listFrom tE rises middleBorder lA slotCount countsFit bordersFit noiseFits tQ timeGrid readGrid meets sbrGrid _followedBy_ flags field relBords checkedCount behindCounts fixFix fixVar varFix
 sampled =
     let o = outcomes in
     record {

@@ -1,6 +1,6 @@
 -- A run of five turns, two of them refused, and its readings, computed: the claim is about something. Proved in proofs/Sampled.antt.
 use mathlib.Core.Path.{_≡_}
-use mathlib.Core.Bool.{Bool, true, false}
+use mathlib.Core.Bool.{true, false}
 use mathlib.Core.List.{List, [], _∷_, _++_, map}
 use Prim.Native.Nat.{ℕ, zero, suc, _+_, _-_, _*_}
 use lib.IntN.{pos, negsuc}
@@ -8,7 +8,8 @@ use lib.ListN.{replicate}
 use lib.Ieee.{Float, binary64, ofBits}
 use Rattle.sbr_grid.specs.declared.FrameClass.the-variants.{FixFix, FixVar, VarFix}
 use Rattle.sbr_floats.specs.Floats.{zero64}
-use Rattle.sbr_run.specs.Run.{Turn, Terms, State, after, sent, Run, Frame, frameOf}
+use Rattle.sbr_encoder.specs.Election.{elect}
+use Rattle.sbr_run.specs.Run.{Turn, Terms, Elects, State, after, sent, Run, Frame, frameOf}
 use Rattle.sbr_run.specs.Readings.{Reading, listened, read, Readings}
 
 -- ---- samples
@@ -40,12 +41,7 @@ terms = record { slots = 16; high = 10 ∷ 11 ∷ 12 ∷ []; low = 10 ∷ 12 ∷
 
 abbrev pub turnAt : ℕ → ℕ → State → Turn
 turnAt n s c = record {
-  slots = n;
-  high = terms .high;
-  low = terms .low;
-  samples = loudFrom s;
-  previous = pos (c .border);
-  variable = true;
+  chosen = elect n (terms .high) (terms .low) (loudFrom s) (pos (c .border)) true;
   timeSlots = n;
   bytes = c .bytes;
   position = c .position;
@@ -102,7 +98,7 @@ readings = readingAt 16 16 3 ∷ readingAt 17 16 8 ∷ readingAt 16 16 8 ∷ rea
 -- ---- the sample
 
 pub record Sample : Type 0 where
-  pub runs : Run terms start turns
+  pub runs : Run Elects terms start turns
   pub sends : map (frameOf terms) (sent turns) ≡ frames
   pub ends : after start turns ≡ end
   pub listens : Readings 16 (end .bytes) (record { border = 16; position = 3 }) readings

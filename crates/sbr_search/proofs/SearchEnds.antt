@@ -1,25 +1,25 @@
 -- The search by its loops: the counts of leading lengths, the ends, the turns.
 use mathlib.Core.Path.{_≡_, refl, sym, ap, _∙_}
-use mathlib.Core.Bool.{Bool, true, false, cond, and-eq-true-iff, and-false}
+use mathlib.Core.Bool.{Bool, true, false, cond, and-false}
 use mathlib.Core.List.{List, [], _∷_, map}
 use mathlib.Core.Option.{Option, none, some}
 use Prim.Native.Nat.{ℕ, zero, suc, _+_, _-_, _≤_, _<_}
 use native.Mathlib.Omega.{arith}
 use native.Mathlib.Numerals.{add-one}
 use native.Mathlib.Decide.{decLe}
-use borrow.Author.Tests.{lt-ltb, le-ltb, leb-true, ltb-false}
+use borrow.Author.Tests.{lt-ltb, le-ltb, ltb-false}
 use lib.Dec.{ltb}
-use lib.ListN.{length, replicate}
+use lib.ListN.{replicate}
 use Rattle.sbr_grid.specs.Grid.{first}
-use Rattle.sbr_borders.specs.declared.Turned.{Turned}
-use Rattle.sbr_borders.specs.declared.Turn.the-variants.{Next, Last}
+use Rattle.sbr_borders.specs.declared.NextShifts.{NextShifts}
+use Rattle.sbr_borders.specs.declared.Further.the-variants.{Next, Last}
 use Rattle.sbr_borders.specs.declared.WantedBorder.{WantedBorder}
 use Rattle.sbr_search.specs.declared.Cost.{Cost}
 use Rattle.sbr_search.specs.declared.Cost.the-variants.{Total, NoTotal}
 use Rattle.sbr_search.specs.Search.{Plan, Best, beats, tryEnds, tryShifts, tryFrom, search}
 use Rattle.sbr_borders.specs.Borders.{places, prices, risesFrom, lastOr, fit, nextShifts, onsetAt}
-use Rattle.sbr_search.specs.Forms.{bestBy}
-use Rattle.sbr_borders.specs.Forms.{turnList}
+use Rattle.sbr_search.specs.Cheapest.{bestBy}
+use Rattle.sbr_borders.specs.Wanted.{shiftsOf}
 use Rattle.sbr_borders.proofs.BorderFits.{left}
 
 -- what is not below is at least as large
@@ -150,9 +150,9 @@ unfolding search
 search-begin n lead k m bs = rw (zero-shifts k m bs)
 
 -- there is a further turn
-pub turn-next : (t : Turned) (k : ℕ) (o : Option (List ℕ)) → t .turn ≡ Next → turnList k t ≡ o → some (first 0 k (t .shifts)) ≡ o
-turn-next t k o e f = rw e at f
+pub shifts-next : (t : NextShifts) (k : ℕ) (o : Option (List ℕ)) → t .further ≡ Next → shiftsOf k t ≡ o → some (first 0 k (t .shifts)) ≡ o
+shifts-next t k o e f = rw e at f
 
 -- there is none
-pub turn-last : (t : Turned) (k : ℕ) (o : Option (List ℕ)) → t .turn ≡ Last → turnList k t ≡ o → none ≡ o
-turn-last t k o e f = rw e at f
+pub shifts-last : (t : NextShifts) (k : ℕ) (o : Option (List ℕ)) → t .further ≡ Last → shiftsOf k t ≡ o → none ≡ o
+shifts-last t k o e f = rw e at f

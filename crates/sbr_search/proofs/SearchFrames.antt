@@ -1,6 +1,4 @@
 -- What a case says of a frame's onsets in an array.
-use mathlib.Core.Path.{_≡_, _∙_}
-use mathlib.Core.Bool.{true}
 use mathlib.Core.List.{List, [], _∷_}
 use Prim.Native.Nat.{ℕ, zero, suc, _+_, _≤_, _<_}
 use native.Mathlib.Omega.{arith}
@@ -8,9 +6,8 @@ use lib.ListN.{length, getD}
 use Rattle.sbr_grid.specs.Grid.{first}
 use Rattle.sbr_grid.proofs.Laws.{length-first}
 use Rattle.sbr_time_grid.proofs.Laws.{slot-range}
-use Rattle.sbr_search.specs.declared.Onsets.{Onsets}
-use Rattle.sbr_search.specs.Plans.{OnsetsFrom, Case}
-use Rattle.sbr_search.specs.Forms.{onsetList}
+use Rattle.sbr_build.specs.declared.Onsets.{Onsets}
+use Rattle.sbr_build.specs.Cases.{OnsetsFrom, Case, onsetList}
 
 -- at most k onsets
 onsets-few : (k lo n : ℕ) (os : List ℕ) → OnsetsFrom k lo n os → length os ≤ k
@@ -33,7 +30,7 @@ bounds n lead o c =
     record {
       least = s .0;
       most = s .1;
-      held = c .held;
+      held = c .clamped;
       few = omega (arith, onsets-few 3 4 n (onsetList o) (c .onsets), length-first 0 (o .count) (o .slot));
     }
 

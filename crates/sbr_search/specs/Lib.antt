@@ -1,3 +1,2 @@
 pub mod Search
-pub mod Forms
-pub mod Plans
+pub mod Cheapest

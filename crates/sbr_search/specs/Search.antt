@@ -1,10 +1,9 @@
 -- The border search in the source's order: `varvar_from_borders` and `multi_onset_grid` of src/sbr_encoder.rs, document 01, "Border search".
-use mathlib.Core.Bool.{Bool, true, false, cond, _&&_, _||_}
-use mathlib.Core.List.{List, [], _∷_, map, reverse}
+use mathlib.Core.Bool.{Bool, true, false, cond, _&&_}
+use mathlib.Core.List.{List, [], _∷_, map}
 use mathlib.Core.Option.{Option, none, some}
-use Prim.Native.Nat.{ℕ, zero, suc, _+_, _-_, _*_, _%_}
-use lib.Dec.{leb, ltb, eqb}
-use lib.ListN.{length, take, drop}
+use Prim.Native.Nat.{ℕ, zero, suc, _+_}
+use lib.Dec.{ltb}
 use Rattle.sbr_grid.specs.Grid.{Grid}
 use Rattle.sbr_borders.specs.declared.WantedBorder.{WantedBorder}
 use Rattle.sbr_build.specs.Build.{varvarGrid}

@@ -1,36 +1,23 @@
 // The border search, the cheapest VarVar grid with a border for each onset: src/sbr_encoder.rs.
 use sbr_borders::Fit;
-use sbr_borders::Turn;
+use sbr_borders::Further;
 use sbr_borders::Wanted;
 use sbr_borders::WantedBorder;
+use sbr_build::Onsets;
 use sbr_grid::SbrGrid;
 ghost use mathlib.Core.Path.{_≡_};
 ghost use mathlib.Core.Bool.{true, false};
-ghost use mathlib.Core.List.{[], _∷_, _++_};
-ghost use Prim.Native.Nat.{ℕ, _+_, _-_, _*_, _≤_, _<_};
-ghost use lib.ListN.{length, take, drop, getD};
+ghost use Prim.Native.Nat.{_+_, _-_, _≤_, _<_};
+ghost use lib.ListN.{getD};
 ghost use Rattle.sbr_grid.specs.Grid.{first, recordOf};
-ghost use Rattle.sbr_build.specs.Build.{lengths};
 ghost use Rattle.sbr_search.specs.Search.{beats, tryEnds, tryShifts, search, bare, isolated, planGrid, planned, plainWins, multiOnsetGrid};
-ghost use Rattle.sbr_borders.specs.Borders.{shiftCount, place, price, places, prices, nextShifts, risesFrom, lastOr, leadingSteps, trailingSteps, evenOk, allEven, reaches, fit};
-ghost use Rattle.sbr_search.specs.Plans.{Case};
-ghost use Rattle.sbr_search.specs.Forms.{onsetList, multiOf};
-ghost use Rattle.sbr_search.specs.Forms.{planOf, bestOf, Within};
-ghost use Rattle.sbr_borders.specs.Forms.{wantedList, InFrame, Turning, turnList, fitOf};
-
-// The onset slots of a frame, the first `count` places.
-pub struct Onsets {
-    pub count: usize,
-    pub slot: [u32; Onsets::MAX_ONSETS],
-}
-
-impl Onsets {
-    // Most onsets that a frame's grid can give an envelope each.
-    pub const MAX_ONSETS: usize = 3;
-}
+ghost use Rattle.sbr_borders.specs.Borders.{fit};
+ghost use Rattle.sbr_build.specs.Cases.{Case, onsetList};
+ghost use Rattle.sbr_search.specs.Cheapest.{multiOf, planOf, bestOf, Within};
+ghost use Rattle.sbr_borders.specs.Wanted.{wantedList, InFrame};
 
 // Two shifts for each of three onsets, three for the isolating border.
-const MAX_TURNS: u32 = 24;
+const MAX_SHIFTS: u32 = 24;
 
 // The cost that the isolating border is worth.
 const ISOLATION_WORTH: u32 = 2;
@@ -43,7 +30,7 @@ pub enum Cost {
 
 // The cheapest plan so far: the shifts, the slots that the end lies past the frame, the count of leading lengths.
 pub struct Cheapest {
-    pub shifts: [u32; Wanted::MAX_BORDERS],
+    pub shifts: [u32; Wanted::MAX_WANTED],
     pub leading: usize,
     pub over: u32,
     pub cost: Cost,
@@ -75,8 +62,8 @@ fn try_end(
     over: u32,
     nts: u32,
     lead: u32,
-    shifts: [u32; Wanted::MAX_BORDERS],
-    borders: [u32; Wanted::MAX_BORDERS],
+    shifts: [u32; Wanted::MAX_WANTED],
+    borders: [u32; Wanted::MAX_WANTED],
     count: usize,
     cost: u32,
     best: Cheapest,
@@ -107,7 +94,7 @@ fn try_end(
 // The best so far, or the plan of these shifts where that is cheaper, the earliest end first. Shifts that cost as much as the best are passed over.
 fn try_shifts(
     w: Wanted,
-    shifts: [u32; Wanted::MAX_BORDERS],
+    shifts: [u32; Wanted::MAX_WANTED],
     lead: u32,
     nts: u32,
     best: Cheapest,
@@ -138,21 +125,21 @@ fn varvar_from_borders(lead: u32, w: Wanted, nts: u32) -> Cheapest
     ensures { λ r. ⌜ bestOf (w .count) r ≡ search nts lead (wantedList w) ⌝ }
     ensures { λ r. ⌜ Within (w .count) r ⌝ }
 {
-    let mut shifts = [0u32; Wanted::MAX_BORDERS];
+    let mut shifts = [0u32; Wanted::MAX_WANTED];
     let mut best = Cheapest {
         cost: Cost::NoTotal,
         shifts,
         over: 0,
         leading: 0,
     };
-    for _turn in 0..MAX_TURNS {
+    for _tried in 0..MAX_SHIFTS {
         best = try_shifts(w, shifts, lead, nts, best);
-        let turned = sbr_borders::next_shifts(w, shifts);
-        let turn = turned.turn;
-        if let Turn::Last = turn {
+        let next = sbr_borders::next_shifts(w, shifts);
+        let further = next.further;
+        if let Further::Last = further {
             return best;
         }
-        shifts = turned.shifts;
+        shifts = next.shifts;
     }
     best
 }
@@ -180,7 +167,7 @@ fn bare_borders(onsets: Onsets) -> Wanted
     let mut border = [WantedBorder {
         slot: 0,
         onset: true,
-    }; Wanted::MAX_BORDERS];
+    }; Wanted::MAX_WANTED];
     for i in 0..onsets.count {
         border[i] = WantedBorder {
             slot: onsets.slot[i],
@@ -203,7 +190,7 @@ fn isolated_borders(onsets: Onsets) -> Wanted
     let mut border = [WantedBorder {
         slot: 0,
         onset: true,
-    }; Wanted::MAX_BORDERS];
+    }; Wanted::MAX_WANTED];
     border[0] = WantedBorder {
         slot: s,
         onset: true,

@@ -14,37 +14,37 @@ use Rattle.sbr_grid.specs.declared.FrameClass.the-variants.{FixFix, FixVar, Var
 use Rattle.sbr_grid.specs.declared.SbrGrid.{SbrGrid}
 use Rattle.sbr_grid.specs.Grid.{byClass, first, Grid, numEnv, viewOf}
 use Rattle.sbr_grid.proofs.Laws.{length-first, getD-first, lengths}
-use Rattle.sbr_time_grid.specs.TimeGrid.{nint, slots, absBordLead, absBordTrail, nRelLead, nRelTrail, relBordLead, relBordTrail, sum, listFrom, tE}
+use Rattle.sbr_time_grid.specs.TimeGrid.{nint, slots, absBordLead, absBordTrail, nRelLead, nRelTrail, relBordLead, relBordTrail, slotSum, listFrom, tE}
 use Rattle.sbr_time_grid.proofs.Laws.{trail-used}
 
 -- the border after the first l lengths, and the one before the last le - l
 abbrev pub leadAt : ℕ → Grid → ℕ → ℕ
-leadAt n g l = absBordLead g + sum (relBordLead n g) l
+leadAt n g l = absBordLead g + slotSum (relBordLead n g) l
 
 abbrev pub trailAt : ℕ → Grid → ℕ → ℕ → ℕ
-trailAt n g le l = absBordTrail n g - sum (relBordTrail g) (le - l)
+trailAt n g le l = absBordTrail n g - slotSum (relBordTrail g) (le - l)
 
 -- a sum of nothing
-pub sum-none : (f : ℕ → ℕ) → sum f 0 ≡ 0
-unfolding sum
+pub sum-none : (f : ℕ → ℕ) → slotSum f 0 ≡ 0
+unfolding slotSum
 sum-none f = refl
 
 -- a sum of one more
-pub sum-more : (f : ℕ → ℕ) (k : ℕ) → sum f (k + 1) ≡ sum f k + f k
-unfolding sum
+pub sum-more : (f : ℕ → ℕ) (k : ℕ) → slotSum f (k + 1) ≡ slotSum f k + f k
+unfolding slotSum
 sum-more f k = rw add-one
 
 -- the first border
-pub lead-first : (f : ℕ → ℕ) (a : ℕ) → a ≡ a + sum f 0
+pub lead-first : (f : ℕ → ℕ) (a : ℕ) → a ≡ a + slotSum f 0
 lead-first f a = omega (arith, sum-none f)
 
 -- one leading length further
-pub lead-next : (f : ℕ → ℕ) (a l b r : ℕ) → b ≡ a + sum f l → r ≡ f l → b + r ≡ a + sum f (l + 1)
+pub lead-next : (f : ℕ → ℕ) (a l b r : ℕ) → b ≡ a + slotSum f l → r ≡ f l → b + r ≡ a + slotSum f (l + 1)
 lead-next f a l b r e h = omega (arith, sum-more f l)
 
 -- sums of the same lengths
-pub sum-same : (f g : ℕ → ℕ) (k : ℕ) → ((i : ℕ) → i < k → f i ≡ g i) → sum f k ≡ sum g k
-unfolding sum
+pub sum-same : (f g : ℕ → ℕ) (k : ℕ) → ((i : ℕ) → i < k → f i ≡ g i) → slotSum f k ≡ slotSum g k
+unfolding slotSum
 sum-same f g zero h = refl
 sum-same f g (suc k) h = rw (sum-same f g k (λ i l. h i (omega arith)), h k (omega arith))
 
@@ -69,15 +69,15 @@ pub trail-read : (g : SbrGrid) (l : ℕ) → l < nRelTrail (viewOf g) → slots 
 trail-read g l h = rw (getD-first 0 (g .«num_rel_1») l (g .«rel_bord_1») (omega (arith, trail-used (viewOf g), lengths g)))
 
 -- the last border
-pub trail-first : (f : ℕ → ℕ) (a : ℕ) → a ≡ a - sum f 0
+pub trail-first : (f : ℕ → ℕ) (a : ℕ) → a ≡ a - slotSum f 0
 trail-first f a = omega (arith, sum-none f)
 
 -- one trailing length further back
-pub trail-next : (f : ℕ → ℕ) (a l b r s : ℕ) → b ≡ a - sum f l → r ≡ f l → s ≡ b - r → s ≡ a - sum f (l + 1)
+pub trail-next : (f : ℕ → ℕ) (a l b r s : ℕ) → b ≡ a - slotSum f l → r ≡ f l → s ≡ b - r → s ≡ a - slotSum f (l + 1)
 trail-next f a l b r s e h k = omega (arith, sum-more f l)
 
 -- the border that is k trailing lengths before the last
-pub trail-at : (f : ℕ → ℕ) (a le k l b : ℕ) → le - l ≡ k → b ≡ a - sum f k → b ≡ a - sum f (le - l)
+pub trail-at : (f : ℕ → ℕ) (a le k l b : ℕ) → le - l ≡ k → b ≡ a - slotSum f k → b ≡ a - slotSum f (le - l)
 trail-at f a le k l b e h = rw e h
 
 -- a border up to the last leading length

@@ -1,14 +1,14 @@
 -- Time borders of a grid: ISO/IEC 14496-3, 4.6.18.3.3 with Tables 4.174 and 4.176. L_E is the envelope count.
 -- Borders are whole numbers from 0 on. A difference that would fall below 0 is 0 here: like the negative number it is not above
 -- the border before it, so the grid is refused either way.
-use mathlib.Core.Bool.{Bool, true, false, cond, _&&_}
+use mathlib.Core.Bool.{Bool, true, cond, _&&_}
 use mathlib.Core.List.{List, [], _∷_}
 use Prim.Native.Nat.{ℕ, zero, suc, _+_, _-_, _*_, _/_}
 use lib.Dec.{leb, ltb, eqb}
 use lib.IntN.{ℤ, pos, negsuc, _-ℤ_}
 use lib.ListN.{length, getD}
 use Rattle.sbr_grid.specs.declared.Refusal.the-variants.{SlotCount, TimeGrid}
-use Rattle.sbr_grid.specs.Refusals.{Outcome, answered, refused, answerOf, valueOr}
+use Rattle.sbr_grid.specs.Refusals.{Outcome, answered, answerOf, valueOr, unless}
 use Rattle.sbr_grid.specs.Grid.{byClass, Grid, numEnv}
 use Rattle.sbr_grid.specs.Times.{Times, slotCount, timeRecord, emptyTime}
 use Rattle.sbr_time_grid.specs.declared.Derived.{Derived}
@@ -47,9 +47,9 @@ abbrev pub relBordTrail : Grid → ℕ → ℕ
 relBordTrail g l = slots (getD (g .relBord1) l 0)
 
 -- f 0 + .. + f (k - 1)
-unfoldable pub sum : (ℕ → ℕ) → ℕ → ℕ
-sum f zero = 0
-sum f (suc k) = sum f k + f k
+unfoldable pub slotSum : (ℕ → ℕ) → ℕ → ℕ
+slotSum f zero = 0
+slotSum f (suc k) = slotSum f k + f k
 
 -- f 0 .. f (k - 1), and those from i on
 unfoldable pub listFrom : (ℕ → ℕ) → ℕ → ℕ → List ℕ
@@ -60,8 +60,8 @@ unfoldable pub tE : ℕ → Grid → ℕ → ℕ
 tE n g l =
     cond (eqb l 0) (absBordLead g)
     (cond (eqb l (numEnv g)) (absBordTrail n g)
-    (cond (leb l (nRelLead g)) (absBordLead g + sum (relBordLead n g) l)
-    (absBordTrail n g - sum (relBordTrail g) (numEnv g - l))))
+    (cond (leb l (nRelLead g)) (absBordLead g + slotSum (relBordLead n g) l)
+    (absBordTrail n g - slotSum (relBordTrail g) (numEnv g - l))))
 
 -- each border from the second to the one at k is above the one before it
 unfoldable pub rises : (ℕ → ℕ) → ℕ → Bool
@@ -93,9 +93,9 @@ countsFit g =
 -- a border byte that the class uses is at most 3 (document 01, refusal 6)
 unfoldable pub bordersFit : Grid → Bool
 bordersFit g =
-    let zeroth = leb (g .varBord0) 3 in
-    let oneth = leb (g .varBord1) 3 in
-    byClass (g .frameClass) true oneth zeroth (zeroth && oneth)
+    let leading = leb (g .varBord0) 3 in
+    let trailing = leb (g .varBord1) 3 in
+    byClass (g .frameClass) true trailing leading (leading && trailing)
 
 -- L_Q: one noise floor for one envelope, else two, which meet inside the frame
 unfoldable pub noiseFits : Grid → Bool
@@ -103,10 +103,12 @@ noiseFits g =
     cond (leb (numEnv g) 1) (eqb (g .numNoise) 1)
     (eqb (g .numNoise) 2 && leb 1 (middleBorder g) && ltb (middleBorder g) (numEnv g))
 
+-- the noise borders of l envelopes with the borders t, which meet at the border m
+abbrev pub noiseBorders : ℕ → ℕ → (ℕ → ℕ) → List ℕ
+noiseBorders l m t = cond (leb l 1) (t 0 ∷ t l ∷ []) (t 0 ∷ t m ∷ t l ∷ [])
+
 unfoldable pub tQ : ℕ → Grid → List ℕ
-tQ n g =
-    cond (leb (numEnv g) 1) (tE n g 0 ∷ tE n g (numEnv g) ∷ [])
-    (tE n g 0 ∷ tE n g (middleBorder g) ∷ tE n g (numEnv g) ∷ [])
+tQ n g = noiseBorders (numEnv g) (middleBorder g) (tE n g)
 
 abbrev pub times : ℕ → Grid → Times
 times n g = record { tE = listFrom (tE n g) 0 (numEnv g + 1); tQ = tQ n g; lA = lA g }
@@ -115,7 +117,7 @@ abbrev pub accepts : ℕ → Grid → Bool
 accepts n g = countsFit g && bordersFit g && rises (tE n g) (numEnv g) && noiseFits g
 
 unfoldable pub timeGrid : ℕ → Grid → Outcome Times
-timeGrid n g = cond (slotCount n) (cond (accepts n g) (answered (times n g)) (refused TimeGrid)) (refused SlotCount)
+timeGrid n g = unless (slotCount n) SlotCount (unless (accepts n g) TimeGrid (answered (times n g)))
 
 -- what a program hands out for it
 abbrev pub derivedOf : Outcome Times → Derived

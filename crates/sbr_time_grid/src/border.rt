@@ -7,7 +7,7 @@ ghost use mathlib.Core.Bool.{true};
 ghost use Prim.Native.Nat.{ℕ, _+_, _-_, _*_, _≤_, _<_};
 ghost use lib.ListN.{length, getD, replicate};
 ghost use Rattle.sbr_grid.specs.Grid.{byClass, first, viewOf};
-ghost use Rattle.sbr_time_grid.specs.TimeGrid.{nint, slots, absBordLead, absBordTrail, nRelLead, nRelTrail, relBordLead, relBordTrail, sum, listFrom, tE, rises, countsFit, bordersFit};
+ghost use Rattle.sbr_time_grid.specs.TimeGrid.{nint, slots, absBordLead, absBordTrail, nRelLead, nRelTrail, relBordLead, relBordTrail, slotSum, listFrom, tE, rises, countsFit, bordersFit};
 
 // num / den to the nearest whole number, halves up.
 fn nint_ratio(num: u32, den: u32) -> u32
@@ -130,7 +130,7 @@ fn rel_bord_lead(class: FrameClass, step: u32, rel: [u8; SbrGrid::MAX_REL_BORD],
 // The borders from the first to the last that a leading length gives; the other places as they were.
 fn leading(g: SbrGrid, n: u32, t: &mut [u32; TimeGrid::MAX_BORDERS])
     requires { ⌜ (n ≤ 16) × (countsFit (viewOf g) ≡ true) × (length (now t) ≡ 6) ⌝ }
-    ensures { λ r. ⌜ ((j : ℕ) → j ≤ nRelLead (viewOf g) → getD (now (t .exit)) j 0 ≡ absBordLead (viewOf g) + sum (relBordLead n (viewOf g)) j) ⌝ }
+    ensures { λ r. ⌜ ((j : ℕ) → j ≤ nRelLead (viewOf g) → getD (now (t .exit)) j 0 ≡ absBordLead (viewOf g) + slotSum (relBordLead n (viewOf g)) j) ⌝ }
     ensures { λ r. ⌜ ((j : ℕ) → nRelLead (viewOf g) < j → getD (now (t .exit)) j 0 ≡ getD (now (t .entry)) j 0) ⌝ }
     ensures { λ r. ⌜ length (now (t .exit)) ≡ 6 ⌝ }
 {
@@ -148,7 +148,7 @@ fn leading(g: SbrGrid, n: u32, t: &mut [u32; TimeGrid::MAX_BORDERS])
 // The borders that trailing lengths give, from the last one back; the other places as they were.
 fn trailing(g: SbrGrid, n: u32, t: &mut [u32; TimeGrid::MAX_BORDERS])
     requires { ⌜ (n ≤ 16) × (countsFit (viewOf g) ≡ true) × (length (now t) ≡ 6) ⌝ }
-    ensures { λ r. ⌜ ((j : ℕ) → nRelLead (viewOf g) < j → j ≤ g .«num_env» → getD (now (t .exit)) j 0 ≡ absBordTrail n (viewOf g) - sum (relBordTrail (viewOf g)) (g .«num_env» - j)) ⌝ }
+    ensures { λ r. ⌜ ((j : ℕ) → nRelLead (viewOf g) < j → j ≤ g .«num_env» → getD (now (t .exit)) j 0 ≡ absBordTrail n (viewOf g) - slotSum (relBordTrail (viewOf g)) (g .«num_env» - j)) ⌝ }
     ensures { λ r. ⌜ ((j : ℕ) → j ≤ nRelLead (viewOf g) → getD (now (t .exit)) j 0 ≡ getD (now (t .entry)) j 0) ⌝ }
     ensures { λ r. ⌜ ((j : ℕ) → g .«num_env» < j → getD (now (t .exit)) j 0 ≡ getD (now (t .entry)) j 0) ⌝ }
     ensures { λ r. ⌜ length (now (t .exit)) ≡ 6 ⌝ }

@@ -5,11 +5,9 @@ use sbr_grid::Refusal;
 use sbr_grid::SbrGrid;
 use sbr_grid::TimeGrid;
 ghost use mathlib.Core.Path.{_≡_};
-ghost use mathlib.Core.Bool.{true};
-ghost use Prim.Native.Nat.{ℕ, _+_, _-_, _*_, _≤_, _<_};
+ghost use Prim.Native.Nat.{_-_};
 ghost use Rattle.sbr_grid.specs.Refusals.{refused};
 ghost use Rattle.sbr_grid.specs.Grid.{viewOf};
-ghost use Rattle.sbr_grid.specs.Times.{slotCount, emptyTime};
 ghost use Rattle.sbr_time_grid.specs.TimeGrid.{timeGrid, derivedOf};
 
 mod border;

@@ -4,13 +4,11 @@ use sbr_grid::FrameClass;
 use sbr_grid::SbrGrid;
 use sbr_grid::TimeGrid;
 ghost use mathlib.Core.Path.{_≡_};
-ghost use mathlib.Core.Bool.{true, cond};
-ghost use mathlib.Core.List.{[], _∷_};
-ghost use Prim.Native.Nat.{ℕ, _+_, _-_, _*_, _≤_, _<_};
-ghost use lib.Dec.{leb};
+ghost use mathlib.Core.Bool.{true};
+ghost use Prim.Native.Nat.{_+_, _-_, _≤_, _<_};
 ghost use lib.ListN.{getD};
-ghost use Rattle.sbr_grid.specs.Grid.{first, viewOf, numEnv};
-ghost use Rattle.sbr_time_grid.specs.TimeGrid.{middleBorder, noiseFits, lA};
+ghost use Rattle.sbr_grid.specs.Grid.{first, viewOf};
+ghost use Rattle.sbr_time_grid.specs.TimeGrid.{middleBorder, noiseFits, noiseBorders, lA};
 
 // The envelope border at which the two noise floors meet; 0 where there is none.
 fn middle_border(g: SbrGrid) -> usize
@@ -55,7 +53,7 @@ pub fn noise_fits(g: SbrGrid) -> bool
 // The noise borders among the envelope borders t; places past the last are zero.
 pub fn t_q(g: SbrGrid, t: &[u32; TimeGrid::MAX_BORDERS]) -> [u32; TimeGrid::MAX_NOISE_BORDERS]
     requires { ⌜ (0 < g .«num_env») × (g .«num_env» ≤ 5) × (noiseFits (viewOf g) ≡ true) ⌝ }
-    ensures { λ r. ⌜ r ≡ first 0 3 (cond (leb (g .«num_env») 1) (getD (now (t .entry)) 0 0 ∷ getD (now (t .entry)) (g .«num_env») 0 ∷ []) (getD (now (t .entry)) 0 0 ∷ getD (now (t .entry)) (middleBorder (viewOf g)) 0 ∷ getD (now (t .entry)) (g .«num_env») 0 ∷ [])) ⌝ }
+    ensures { λ r. ⌜ r ≡ first 0 3 (noiseBorders (g .«num_env») (middleBorder (viewOf g)) (λ l. getD (now (t .entry)) l 0)) ⌝ }
 {
     let le = g.num_env;
     if le <= 1 {

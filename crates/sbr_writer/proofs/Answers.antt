@@ -1,8 +1,8 @@
 -- The ways that `write_grid` answers.
-use mathlib.Core.Path.{_≡_, refl, sym, ap, _∙_}
+use mathlib.Core.Path.{_≡_, refl}
 use mathlib.Core.Bool.{Bool, true, false, cond}
 use mathlib.Core.List.{List}
-use Prim.Native.Nat.{ℕ, _+_, _≤_}
+use Prim.Native.Nat.{ℕ, _+_}
 use native.Mathlib.Omega.{arith}
 use native.Mathlib.Nat.{zero-add}
 use borrow.Author.Tests.{le-leb}
@@ -13,7 +13,7 @@ use Rattle.bits.specs.declared.Placed.{Placed}
 use Rattle.bits.specs.declared.Placed.the-variants.{To as PlacedTo, NoRoom}
 use Rattle.bits.specs.declared.Window.{Window}
 use Rattle.bits.proofs.Numbers.{bits-num}
-use Rattle.sbr_grid.specs.declared.Refusal.the-variants.{Room, Unwritable}
+use Rattle.sbr_grid.specs.declared.Refusal.the-variants.{Room, Record}
 use Rattle.sbr_grid.specs.Refusals.{Outcome, answered, refused}
 use Rattle.sbr_grid.specs.Grid.{Grid}
 use Rattle.sbr_writer.specs.Syntax.{gridBits}
@@ -27,7 +27,7 @@ use Rattle.sbr_writer.proofs.Facts.{length-grid}
 abbrev pub Writes : List ℕ → ℕ → Grid → Written → List ℕ → Type 0
 Writes l p g r m = (r ≡ writtenOf (writeGrid l p g)) × (m ≡ bytesAfter l (writeGrid l p g))
 
-pub unwritable : (l : List ℕ) (p : ℕ) (g : Grid) → writable g ≡ false → Writes l p g (Refused Unwritable) l
+pub unwritable : (l : List ℕ) (p : ℕ) (g : Grid) → writable g ≡ false → Writes l p g (Refused Record) l
 unfolding writeGrid
 unwritable l p g e = rw e (refl, refl)
 

@@ -1,5 +1,5 @@
 -- What the tests of `writable` say, and the loops that make them.
-use mathlib.Core.Path.{_≡_, refl, sym, ap, _∙_}
+use mathlib.Core.Path.{_≡_, refl}
 use mathlib.Core.Bool.{Bool, true, false, _&&_, _||_}
 use mathlib.Core.List.{List, [], _∷_}
 use Prim.Native.Nat.{ℕ, zero, suc, _+_, _≤_, _<_}
@@ -13,7 +13,7 @@ use Rattle.sbr_grid.specs.declared.SbrGrid.{SbrGrid}
 use Rattle.sbr_grid.specs.Grid.{first, viewOf, numEnv, Grid}
 use Rattle.sbr_grid.proofs.Laws.{length-first, getD-first, lengths}
 use Rattle.bits.proofs.Numbers.{length-bitsOf}
-use Rattle.sbr_grid.proofs.Widths.{ptr-bits-log}
+use Rattle.sbr_grid.proofs.Widths.{pointer-width}
 use Rattle.sbr_writer.specs.Syntax.{bodyBits, gridBits}
 use Rattle.sbr_writer.specs.Write.{every, small, allAre, classFits, fieldsFit, writable}
 use Rattle.sbr_writer.proofs.Gather.{next, done, length-twos}
@@ -210,14 +210,14 @@ unfolding bodyBits classFits
 length-body FixFix g a b = simp (length-append, length-bitsOf) (omega arith)
 length-body FixVar g a b =
     let t = one-told (length (g .relBord1)) (numEnv g) b in
-    simp (length-append, length-bitsOf, length-twos, length-reverse) (omega (arith, t .0, t .1, ptr-bits-log (numEnv g) .least 3 (omega (arith, t .1))))
+    simp (length-append, length-bitsOf, length-twos, length-reverse) (omega (arith, t .0, t .1, pointer-width (numEnv g) .least 3 (omega (arith, t .1))))
 length-body VarFix g a b =
     let t = one-told (length (g .relBord0)) (numEnv g) b in
-    simp (length-append, length-bitsOf, length-twos) (omega (arith, t .0, t .1, ptr-bits-log (numEnv g) .least 3 (omega (arith, t .1))))
+    simp (length-append, length-bitsOf, length-twos) (omega (arith, t .0, t .1, pointer-width (numEnv g) .least 3 (omega (arith, t .1))))
 length-body VarVar g a b =
     let t = two-told (length (g .relBord0)) (length (g .relBord1)) (numEnv g) b in
     let m = fields-told g a .most in
-    simp (length-append, length-bitsOf, length-twos) (omega (arith, t .0, m, ptr-bits-log (numEnv g) .least 3 (omega (arith, m))))
+    simp (length-append, length-bitsOf, length-twos) (omega (arith, t .0, m, pointer-width (numEnv g) .least 3 (omega (arith, m))))
 
 pub length-grid : (g : Grid) → writable g ≡ true → length (gridBits g) ≤ 26
 unfolding gridBits

@@ -16,7 +16,7 @@ use Rattle.bits.specs.declared.Window.{Window}
 use Rattle.bits.proofs.Numbers.{num-from, num-after, num-append, num-lt, length-bitsOf}
 use Rattle.sbr_grid.specs.Grid.{classCode, first, ptrBits, tableWidth, Grid}
 use Rattle.sbr_grid.specs.declared.FrameClass.{FrameClass}
-use Rattle.sbr_grid.proofs.Widths.{ptr-bits-log, width-ptr}
+use Rattle.sbr_grid.proofs.Widths.{pointer-width, width-ptr}
 use Rattle.sbr_grid.proofs.Laws.{length-first, getD-first}
 use Rattle.sbr_writer.specs.Syntax.{envCode, twos, bodyBits, gridBits}
 use Rattle.sbr_writer.specs.Code.{appended, Behind, windowFor, Space, sideBits}
@@ -115,10 +115,10 @@ env-code-lt n = go (decLe n 1) (decLe n 2)
 
 -- a pointer up to the envelope count fits its width, which is at most 3
 pub pointer-fits : (n p w : ℕ) → 0 < n → n ≤ 5 → p ≤ n → w ≡ tableWidth n → p < 2 ^ w
-pointer-fits n p w h k l e = rw (e, width-ptr n h k) (omega (arith, ptr-bits-log n .holds))
+pointer-fits n p w h k l e = rw (e, width-ptr n h k) (omega (arith, pointer-width n .holds))
 
-pub pointer-width : (n w : ℕ) → 0 < n → n ≤ 5 → w ≡ tableWidth n → w ≤ 3
-pointer-width n w h k e = rw (e, width-ptr n h k) (ptr-bits-log n .least 3 (omega arith))
+pub pointer-narrow : (n w : ℕ) → 0 < n → n ≤ 5 → w ≡ tableWidth n → w ≤ 3
+pointer-narrow n w h k e = rw (e, width-ptr n h k) (pointer-width n .least 3 (omega arith))
 
 pub length-twos : (xs : List ℕ) → length (twos xs) ≡ 2 * length xs
 unfolding twos
@@ -133,7 +133,7 @@ side-flags b rel p n fl e = rw e (simp append-assoc)
 -- at most 4 envelopes send at most 13 bits before their flags
 pub length-side : (b : ℕ) (rel : List ℕ) (p n : ℕ) → length rel + 1 ≡ n → n ≤ 4 → length (sideBits b rel p) ≤ 13
 length-side b rel p n e h =
-    simp (length-append, length-bitsOf, length-twos) (omega (arith, ptr-bits-log (length rel + 1) .least 3 (omega arith)))
+    simp (length-append, length-bitsOf, length-twos) (omega (arith, pointer-width (length rel + 1) .least 3 (omega arith)))
 
 -- what VarVar sends, put together
 pub var-var-bits : (b0 b1 : ℕ) (rel0 rel1 : List ℕ) (m n : ℕ) (ptr fl : List Bool) → m ≡ length rel0 → n ≡ length rel1

@@ -8,8 +8,8 @@ use Rattle.bits.specs.Bits.{putBits}
 use Rattle.bits.specs.Room.{roomFor}
 use Rattle.sbr_grid.specs.declared.FrameClass.{FrameClass}
 use Rattle.sbr_grid.specs.declared.FrameClass.the-variants.{FixFix, FixVar, VarFix, VarVar}
-use Rattle.sbr_grid.specs.declared.Refusal.the-variants.{Room, Unwritable}
-use Rattle.sbr_grid.specs.Refusals.{Outcome, answered, refused, valueOr}
+use Rattle.sbr_grid.specs.declared.Refusal.the-variants.{Room, Record}
+use Rattle.sbr_grid.specs.Refusals.{Outcome, answered, refused, valueOr, unless}
 use Rattle.sbr_grid.specs.Grid.{Grid, numEnv}
 use Rattle.sbr_writer.specs.Syntax.{gridBits}
 use Rattle.sbr_writer.specs.declared.Written.{Written}
@@ -58,9 +58,8 @@ pub record Wrote : Type 0 where
 unfoldable pub writeGrid : List ℕ → ℕ → Grid → Outcome Wrote
 writeGrid l p g =
     let n = length (gridBits g) in
-    cond (writable g)
-    (cond (roomFor (length l) p n) (answered (record { bytes = putBits l p (gridBits g); position = p + n })) (refused Room))
-    (refused Unwritable)
+    unless (writable g) Record
+    (unless (roomFor (length l) p n) Room (answered (record { bytes = putBits l p (gridBits g); position = p + n })))
 
 -- the enum that a program hands out for it
 abbrev pub writtenOf : Outcome Wrote → Written

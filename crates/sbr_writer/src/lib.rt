@@ -3,7 +3,6 @@ use bits::Placed;
 use sbr_grid::Refusal;
 use sbr_grid::SbrGrid;
 ghost use mathlib.Core.Path.{_≡_};
-ghost use mathlib.Core.Bool.{true};
 ghost use Rattle.sbr_grid.specs.Grid.{viewOf};
 ghost use Rattle.sbr_writer.specs.Write.{writeGrid, writtenOf, bytesAfter};
 
@@ -23,10 +22,10 @@ pub fn write_grid(buf: &mut [u8], pos: usize, grid: SbrGrid) -> Written
     ensures bytes { λ _. ⌜ now (buf .exit) ≡ bytesAfter (now (buf .entry)) (writeGrid (now (buf .entry)) pos (viewOf grid)) ⌝ }
 {
     if !fits::writable(grid) {
-        return Written::Refused(Refusal::Unwritable);
+        return Written::Refused(Refusal::Record);
     }
     let bits = code::grid_bits(grid);
-    match bits_put::put_bits(buf, pos, bits.value, bits.width) {
+    match bits::put_bits(buf, pos, bits.value, bits.width) {
         Placed::To(next) => Written::To(next),
         Placed::NoRoom => Written::Refused(Refusal::Room),
     }

@@ -1,7 +1,7 @@
 -- `c_bits::write_grid` meets its contract.
 use borrow.Author.Needs.{needs}
 use mathlib.Core.Path.{ap, _∙_}
-use Rattle.sbr_grid.specs.declared.Refusal.the-variants.{Unwritable}
+use Rattle.sbr_grid.specs.declared.Refusal.the-variants.{Record}
 use Rattle.sbr_writer.specs.Write.{writeGrid}
 use Rattle.sbr_form.proofs.Same.{write-same}
 use Rattle.sbr_give.proofs.Answers.{gives-refused, gives-answered}
@@ -18,7 +18,7 @@ number-requires c κs = search needs
 
 returns : tie.Need-returns
 returns c =
-    gives-refused _ _ Unwritable _ (c .number .ensures) (not-formed _ _ _ (ap (λ x. x .«is_formed») (c .before .before .before .form-record .ensures)) (c .before .if1 .taken))
+    gives-refused _ _ Record _ (c .number .ensures) (not-formed _ _ _ (ap (λ x. x .«is_formed») (c .before .before .before .form-record .ensures)) (c .before .if1 .taken))
 
 write-grid-requires : tie.Need-write-grid-requires
 write-grid-requires c κs = search needs

@@ -6,7 +6,7 @@ use mir.Syntax.{w32}
 use mir.ValLaws.{toZ-ofZ}
 use borrow.Author.Tests.{not-true, not-false, le-leb, lt-leb}
 use lib.Dec.{leb, eqb}
-use Rattle.sbr_grid.specs.declared.Refusal.the-variants.{SlotCount, Unwritable}
+use Rattle.sbr_grid.specs.declared.Refusal.the-variants.{SlotCount, Record}
 use Rattle.sbr_grid.specs.Times.{slotCount}
 use Rattle.sbr_encoder.specs.Election.{elect, electionOf}
 use Rattle.sbr_give.proofs.Answers.{gives-refused, gives-coded, gives-answered}
@@ -47,7 +47,7 @@ number-requires-2 : tie.Need-number-requires-2
 number-requires-2 c κs = search needs
 
 returns-2 : tie.Need-returns-2
-returns-2 c = gives-refused _ _ Unwritable _ (c .number2 .ensures) (rw (slots-so (c .before .before), lt-leb _ 1 (c .before .if2 .taken)))
+returns-2 c = gives-refused _ _ Record _ (c .number2 .ensures) (rw (slots-so (c .before .before), lt-leb _ 1 (c .before .if2 .taken)))
 
 elect-grid-requires : tie.Need-elect-grid-requires
 elect-grid-requires c κs = search needs

@@ -3,7 +3,7 @@ use borrow.Author.Needs.{needs}
 use mathlib.Core.Path.{_≡_, sym, ap, _∙_}
 use mathlib.Core.Bool.{true}
 use borrow.Author.Tests.{not-true, not-false}
-use Rattle.sbr_grid.specs.declared.Refusal.the-variants.{SlotCount, Unwritable}
+use Rattle.sbr_grid.specs.declared.Refusal.the-variants.{SlotCount, Record}
 use Rattle.sbr_grid.specs.Times.{slotCount}
 use Rattle.sbr_envelopes.specs.Envelopes.{energies}
 use Rattle.sbr_give.proofs.Answers.{gives-refused, gives-answered}
@@ -35,7 +35,7 @@ number-requires-2 c κs = search needs
 returns-2 : tie.Need-returns-2
 returns-2 c =
     let f = c .before .before .before in
-    gives-refused _ _ Unwritable _ (c .number2 .ensures)
+    gives-refused _ _ Record _ (c .number2 .ensures)
     (rw (slots-so (f .before)) (not-formed _ _ _ (ap (λ x. x .«is_formed») (f .form-record .ensures)) (c .before .if2 .taken)))
 
 estimate-envelopes-requires : tie.Need-estimate-envelopes-requires

@@ -3,7 +3,7 @@ use borrow.Author.Needs.{needs}
 use mathlib.Core.Path.{_≡_, refl}
 use mir.Syntax.{w32}
 use mir.ValLaws.{toZ-ofZ}
-use Rattle.sbr_reader.specs.Read.{readGrid, readingOf}
+use Rattle.sbr_reader.specs.Read.{readGrid, frameReadOf}
 use Rattle.sbr_give.proofs.Answers.{gives-coded, gives-answered}
 use Rattle.c_read.proofs.Readings.{read-code, read-few, has-read}
 use Rattle.c_read.proofs.read_grid.Statement.{statement}
@@ -11,7 +11,7 @@ use Rattle.c_read.proofs.read_grid.Tie as tie
 
 -- what was read, in the caller's own numbers
 read-is : (c : tie.After-read-grid) → let a = c .before .before .before .before .args in
-    c .read-grid .result ≡ readingOf (a .position .now) (record { border = a .border .now }) (readGrid (a .bytes .now) (a .position .now) (a .num-time-slots) (a .border .now))
+    c .read-grid .result ≡ frameReadOf (a .position .now) (record { border = a .border .now }) (readGrid (a .bytes .now) (a .position .now) (a .num-time-slots) (a .border .now))
 read-is c = rw (toZ-ofZ w32 _ (record { sfits = c .before .before2 .given })) at (c .read-grid .ensures)
 
 read-grid-requires : tie.Need-read-grid-requires

@@ -1,6 +1,6 @@
 -- `c_send::send_frame` meets its contract.
 use borrow.Author.Needs.{needs}
-use mathlib.Core.Path.{_≡_, sym, _∙_}
+use mathlib.Core.Path.{_≡_, refl, sym, _∙_}
 use mathlib.Core.Bool.{true}
 use mathlib.Core.List.{List}
 use Prim.Native.Nat.{ℕ}
@@ -8,11 +8,11 @@ use mir.Syntax.{w32}
 use mir.ValLaws.{toZ-ofZ}
 use borrow.Author.Tests.{not-true, not-false, le-leb, lt-leb}
 use lib.Dec.{leb, eqb}
-use Rattle.sbr_grid.specs.declared.Refusal.the-variants.{SlotCount, Unwritable}
+use Rattle.sbr_grid.specs.declared.Refusal.the-variants.{SlotCount, Record}
 use Rattle.sbr_grid.specs.Times.{slotCount}
 use Rattle.sbr_run.specs.declared.Place.{Place}
 use Rattle.sbr_run.specs.Run.{Turn, turn}
-use Rattle.sbr_run.specs.Forms.{turnFrom, sendingOf, bytesLeft}
+use Rattle.sbr_run.specs.Place.{turnFrom, sendingOf, bytesLeft}
 use Rattle.sbr_give.proofs.Answers.{gives-refused, gives-coded, gives-answered}
 use Rattle.c_bits.specs.Calls.{slotted}
 use Rattle.c_send.proofs.Sendings.{send-code, not-sent, sent-few, has-sent}
@@ -66,7 +66,7 @@ number-requires-2 : tie.Need-number-requires-2
 number-requires-2 c κs = search needs
 
 returns-2 : tie.Need-returns-2
-returns-2 c = gives-refused _ _ Unwritable _ (c .number2 .ensures) (rw (slots-so (c .before .before), lt-leb _ 1 (c .before .if2 .taken)))
+returns-2 c = gives-refused _ _ Record _ (c .number2 .ensures) (rw (slots-so (c .before .before), lt-leb _ 1 (c .before .if2 .taken)))
 
 send-frame-requires : tie.Need-send-frame-requires
 send-frame-requires c κs = search needs
@@ -91,7 +91,7 @@ give-record-requires : tie.Need-give-record-requires
 give-record-requires c κs =
     let e = c .before .before .before .before .before .before in
     let d = e .before .before .before .before in
-    sent-few (turn-at (tested d)) (place (tested d)) (d .send-frame .result) _ (left d) (sent-is d) _ (e .before .code-of .ensures) (e .if3 .left)
+    sent-few (turn-at (tested d)) (place (tested d)) (d .send-frame .result) _ (left d) (sent-is d) _ (e .before .code-of .ensures) (e .if3 .left) _ _ _ _ _ _ refl
 
 give-times-requires : tie.Need-give-times-requires
 give-times-requires c κs = search needs

@@ -5,7 +5,7 @@ use mathlib.Core.Logic.{⊎-elim}
 use Prim.Native.Nat.{_+_, _≤_, _/_, min}
 use native.Mathlib.Omega.{arith}
 use borrow.Author.Needs.{needs}
-use Rattle.sbr_build.specs.Build.{lengths}
+use Rattle.sbr_build.specs.Build.{lengthList}
 use Rattle.sbr_attack.specs.Attack.{segmentsBy, evenSegments}
 use Rattle.sbr_attack.proofs.AttackLists.{segments-done, segments-next}
 use Rattle.sbr_attack.proofs.even_segments.Statement.{statement}
@@ -13,7 +13,7 @@ use Rattle.sbr_attack.proofs.even_segments.Tie as tie
 
 abbrev Inv-loop : tie.InvT-loop
 Inv-loop span segs₀ left₀ segs left =
-    (segs .count + (left + 7) / 8 ≤ 3) × (lengths segs ++ segmentsBy left left ≡ evenSegments span)
+    (segs .count + (left + 7) / 8 ≤ 3) × (lengthList segs ++ segmentsBy left left ≡ evenSegments span)
 
 abbrev μ-loop : tie.MeasureT-loop
 μ-loop span segs₀ left₀ segs left = left
@@ -40,7 +40,7 @@ loop-less c = omega (arith, held (c .before .before))
 loop-again : tie.Need-loop-again Inv-loop μ-loop
 loop-again c =
     let s = c .before .before .before .before .loop in
-    (omega (arith, held (c .before .before)), segments-next (lengths (s .segs)) _ _ _ _ (omega arith) (held (c .before .before)) (c .before .push .ensures .0) (s .inv .1))
+    (omega (arith, held (c .before .before)), segments-next (lengthList (s .segs)) _ _ _ _ (omega arith) (held (c .before .before)) (c .before .push .ensures .0) (s .inv .1))
 
 returns : tie.Need-returns Inv-loop μ-loop
 returns c =

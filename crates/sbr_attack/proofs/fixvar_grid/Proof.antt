@@ -5,7 +5,7 @@ use Prim.Native.Nat.{_+_, _-_, _%_, max}
 use native.Mathlib.Omega.{arith}
 use borrow.Author.Needs.{needs}
 use Rattle.sbr_grid.proofs.Laws.{length-first}
-use Rattle.sbr_build.specs.Build.{lengths}
+use Rattle.sbr_build.specs.Build.{lengthList}
 use Rattle.sbr_attack.proofs.AttackGrids.{fixvar-from}
 use Rattle.sbr_attack.proofs.fixvar_grid.Statement.{statement}
 use Rattle.sbr_attack.proofs.fixvar_grid.Tie as tie
@@ -47,7 +47,7 @@ returns c =
     let j = p .before .before in
     let a = j .before .args in
     let r = p .fixvar-segs .result in
-    rw (fixvar-from (a .s) (a .nts) _ (lengths r) (r .count + 1) (end j) (p .fixvar-segs .ensures .0) (omega (arith, length-first 0 (r .count) (r .slots))))
+    rw (fixvar-from (a .s) (a .nts) _ (lengthList r) (r .count + 1) (end j) (p .fixvar-segs .ensures .0) (omega (arith, length-first 0 (r .count) (r .slots))))
     (rw (c .before .none .ensures .0) at (c .grid-of .ensures))
 
 pub fixvar-grid-spec : {M : Type 1} → statement M

@@ -8,7 +8,7 @@ use native.Mathlib.Omega.{arith}
 use borrow.Author.Needs.{needs}
 use lib.Dec.{ltb}
 use Rattle.sbr_grid.proofs.Laws.{length-first}
-use Rattle.sbr_build.specs.Build.{lengths}
+use Rattle.sbr_build.specs.Build.{lengthList}
 use Rattle.sbr_attack.specs.Attack.{varfixSegs}
 use Rattle.sbr_attack.proofs.AttackGrids.{varfix-from}
 use Rattle.sbr_attack.proofs.varfix_grid.Statement.{statement}
@@ -16,7 +16,7 @@ use Rattle.sbr_attack.proofs.varfix_grid.Tie as tie
 
 -- the lengths: those to the onset, and 2 where the onset's envelope ends before the frame does
 held : (c : tie.Joined1) → let p = c .before .before in let a = p .before .args in let r = c .if1 .rel in
-    (lengths r ≡ varfixSegs (p .aligned-attack .result - a .lead) ++ cond (ltb (p .aligned-attack .result + 2) (a .nts)) (2 ∷ []) [])
+    (lengthList r ≡ varfixSegs (p .aligned-attack .result - a .lead) ++ cond (ltb (p .aligned-attack .result + 2) (a .nts)) (2 ∷ []) [])
     × (1 ≤ r .count) × (r .count ≤ 3)
 held c =
     let e = c .before .varfix-segs .ensures in
@@ -59,7 +59,7 @@ returns c =
     let p = j .before .before in
     let a = p .before .args in
     let r = j .if1 .rel in
-    rw (varfix-from (a .s) (a .lead) (a .nts) _ (lengths r) (r .count) (p .aligned-attack .ensures .0) (held j .0) (omega (arith, length-first 0 (r .count) (r .slots))))
+    rw (varfix-from (a .s) (a .lead) (a .nts) _ (lengthList r) (r .count) (p .aligned-attack .ensures .0) (held j .0) (omega (arith, length-first 0 (r .count) (r .slots))))
     (rw (c .before .before .none .ensures .0, c .before .varfix-mark .ensures .0) at (c .grid-of .ensures))
 
 pub varfix-grid-spec : {M : Type 1} → statement M

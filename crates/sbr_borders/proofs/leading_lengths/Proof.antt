@@ -4,14 +4,14 @@ use native.Mathlib.Omega.{arith}
 use borrow.Author.Needs.{needs}
 use Rattle.sbr_grid.specs.Grid.{first}
 use Rattle.sbr_grid.proofs.Laws.{length-first, getD-first}
-use Rattle.sbr_build.specs.Build.{lengths}
+use Rattle.sbr_build.specs.Build.{lengthList}
 use Rattle.sbr_borders.proofs.BorderWalks.{up, Steps, steps-begin, steps-next, steps-end, leading-steps}
 use Rattle.sbr_borders.proofs.leading_lengths.Statement.{statement}
 use Rattle.sbr_borders.proofs.leading_lengths.Tie as tie
 
 abbrev Inv-loop : tie.InvT-loop
 Inv-loop lead k count borders out₀ last₀ i₀ out last i =
-    (i ≤ k) × (out .count ≡ i) × Steps up lead (first 0 k borders) i last (lengths out)
+    (i ≤ k) × (out .count ≡ i) × Steps up lead (first 0 k borders) i last (lengthList out)
 
 abbrev μ-loop : tie.MeasureT-loop
 μ-loop lead k count borders out₀ last₀ i₀ out last i = k - i

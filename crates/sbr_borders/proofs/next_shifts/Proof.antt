@@ -5,14 +5,14 @@ use borrow.Author.Needs.{needs}
 use lib.ListN.{length, getD, length-set}
 use Rattle.sbr_time_grid.proofs.Borders.{zeros-at}
 use Rattle.sbr_borders.specs.Borders.{shiftCount, onsetAt}
-use Rattle.sbr_borders.specs.Forms.{Turning}
+use Rattle.sbr_borders.specs.Wanted.{ShiftsFit}
 use Rattle.sbr_borders.proofs.BorderShifts.{noBorder, border-at, put-below, shifts-few, Turns, turns-begin, turns-next, turns-stop, turns-end}
 use Rattle.sbr_borders.proofs.next_shifts.Statement.{statement}
 use Rattle.sbr_borders.proofs.next_shifts.Tie as tie
 
 abbrev Inv-loop : tie.InvT-loop
 Inv-loop w next₀ i₀ i-end next i =
-    (i ≤ w .count) × (length next ≡ 4) × Turning (w .count) next × Turns (w .count) (w .border) next₀ i next
+    (i ≤ w .count) × (length next ≡ 4) × ShiftsFit (w .count) next × Turns (w .count) (w .border) next₀ i next
 
 abbrev μ-loop : tie.MeasureT-loop
 μ-loop w next₀ i₀ i-end next i = w .count - i

@@ -2,7 +2,7 @@ use mathlib.Core.Path.{_≡_, sym, _∙_}
 use Prim.Native.Nat.{_-_, _≤_}
 use native.Mathlib.Omega.{arith}
 use borrow.Author.Needs.{needs}
-use Rattle.sbr_build.specs.Build.{lengths}
+use Rattle.sbr_build.specs.Build.{lengthList}
 use Rattle.sbr_borders.proofs.BorderLists.{lastFirst, length-last, getD-last}
 use Rattle.sbr_borders.proofs.BorderWalks.{down, Steps, steps-begin, steps-next, steps-end, trailing-steps}
 use Rattle.sbr_borders.proofs.trailing_lengths.Statement.{statement}
@@ -10,7 +10,7 @@ use Rattle.sbr_borders.proofs.trailing_lengths.Tie as tie
 
 abbrev Inv-loop : tie.InvT-loop
 Inv-loop t k count borders out₀ last₀ i₀ i-end out last i =
-    (i ≤ count - k) × (out .count ≡ i) × (last ≤ 33) × Steps down t (lastFirst k count borders) i last (lengths out)
+    (i ≤ count - k) × (out .count ≡ i) × (last ≤ 33) × Steps down t (lastFirst k count borders) i last (lengthList out)
 
 abbrev μ-loop : tie.MeasureT-loop
 μ-loop t k count borders out₀ last₀ i₀ i-end out last i = count - k - i

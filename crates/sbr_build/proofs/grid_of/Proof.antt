@@ -7,7 +7,7 @@ use borrow.Author.Needs.{needs}
 use lib.Dec.{ltb}
 use lib.ListN.{length-replicate, length-map}
 use Rattle.sbr_grid.proofs.Laws.{length-first}
-use Rattle.sbr_build.specs.Build.{lengths, raw}
+use Rattle.sbr_build.specs.Build.{lengthList, raw}
 use Rattle.sbr_build.proofs.grid_of.Statement.{statement}
 use Rattle.sbr_build.proofs.grid_of.Tie as tie
 
@@ -49,8 +49,8 @@ returns c =
       c .before .raw-rel2 .ensures,
       c .single .ensures,
       length-replicate (a .num-env) (a .high),
-      length-map (lengths (a .rel-0)) raw,
-      length-map (lengths (a .rel-1)) raw,
+      length-map (lengthList (a .rel-0)) raw,
+      length-map (lengthList (a .rel-1)) raw,
       length-first 0 (a .rel-0 .count) (a .rel-0 .slots),
       length-first 0 (a .rel-1 .count) (a .rel-1 .slots),
     )

@@ -5,14 +5,14 @@ use Prim.Native.Nat.{_+_, _-_, _≤_}
 use native.Mathlib.Nat.{sub-zero}
 use native.Mathlib.Omega.{arith}
 use borrow.Author.Needs.{needs}
-use Rattle.sbr_build.specs.Build.{lengths, shares}
+use Rattle.sbr_build.specs.Build.{lengthList, shares}
 use Rattle.sbr_build.proofs.BuildLists.{shares-done, shares-stop, shares-next}
 use Rattle.sbr_build.proofs.shared.Statement.{statement}
 use Rattle.sbr_build.proofs.shared.Tie as tie
 
 abbrev Inv-loop : tie.InvT-loop
 Inv-loop num-env span rel₀ left₀ i₀ rel left i =
-    (rel .count + 1 ≡ i) × (i ≤ num-env) × (lengths rel ++ shares (num-env - rel .count) left ≡ shares num-env span)
+    (rel .count + 1 ≡ i) × (i ≤ num-env) × (lengthList rel ++ shares (num-env - rel .count) left ≡ shares num-env span)
 
 abbrev μ-loop : tie.MeasureT-loop
 μ-loop num-env span rel₀ left₀ i₀ rel left i = num-env - i
@@ -36,7 +36,7 @@ share-requires c κs = search needs
 returns : tie.Need-returns Inv-loop μ-loop
 returns c =
     let s = c .before .before .before .before .loop in
-    (shares-stop (lengths (s .rel)) _ _ _ _ (omega arith) (c .before .share .ensures .0) (c .if1 .taken) (s .inv .2), omega arith)
+    (shares-stop (lengthList (s .rel)) _ _ _ _ (omega arith) (c .before .share .ensures .0) (c .if1 .taken) (s .inv .2), omega arith)
 
 push-requires : tie.Need-push-requires Inv-loop μ-loop
 push-requires c κs = search needs
@@ -58,13 +58,13 @@ loop-again c =
     let e : n - c .push .result .count ≡ n - s .rel .count - 1 = omega arith in (
       omega arith,
       omega arith,
-      rw e (shares-next (lengths (s .rel)) _ _ _ _ _ (omega arith) (b .share .ensures .0) (c .before .if1 .left) (c .push .ensures .0) (s .inv .2)),
+      rw e (shares-next (lengthList (s .rel)) _ _ _ _ _ (omega arith) (b .share .ensures .0) (c .before .if1 .left) (c .push .ensures .0) (s .inv .2)),
     )
 
 returns-2 : tie.Need-returns-2 Inv-loop μ-loop
 returns-2 c =
     let s = c .before .loop in
-    (shares-done (lengths (s .rel)) _ _ _ (omega arith) (s .inv .2), omega arith)
+    (shares-done (lengthList (s .rel)) _ _ _ (omega arith) (s .inv .2), omega arith)
 
 pub shared-spec : {M : Type 1} → statement M
 shared-spec =

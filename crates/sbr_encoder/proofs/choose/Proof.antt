@@ -1,7 +1,6 @@
-use mathlib.Core.Path.{_≡_, sym, ap, _∙_}
+use mathlib.Core.Path.{_≡_, ap, _∙_}
 use mathlib.Core.Logic.{⊎-elim}
 use native.Mathlib.Omega.{arith}
-use borrow.Author.Needs.{needs}
 use lib.Ieee.{Float, nan}
 use lib.ListN.{getD}
 use mir.Syntax.{w32}
@@ -9,9 +8,7 @@ use mir.ValLaws.{toZ-ofZ}
 use Prim.Native.Nat.{ℕ}
 use Rattle.sbr_grid.specs.Grid.{recordOf}
 use Rattle.sbr_onsets.specs.Onsets.{halvesAlike, leadOf}
-use Rattle.sbr_search.specs.Plans.{Case}
-use Rattle.sbr_search.specs.Forms.{onsetList}
-use Rattle.sbr_chosen.specs.Elect.{chosenGrid}
+use Rattle.sbr_choice.specs.Choice.{chosenGrid}
 use Rattle.sbr_time_grid.proofs.Laws.{slot-range}
 use Rattle.sbr_onsets.proofs.OnsetLead.{frame-case}
 use Rattle.sbr_encoder.proofs.Choices.{even-same, some-onset}

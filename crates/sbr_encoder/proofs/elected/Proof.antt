@@ -1,5 +1,3 @@
-use mathlib.Core.Path.{_≡_}
-use borrow.Author.Needs.{needs}
 use mir.Syntax.{w32}
 use mir.ValLaws.{toZ-ofZ}
 use Rattle.sbr_qmf.specs.Qmf.{columns}

@@ -1,6 +1,5 @@
 use Prim.Native.Nat.{_-_}
 use native.Mathlib.Omega.{arith}
-use borrow.Author.Needs.{needs}
 use lib.ListN.{length}
 use Rattle.sbr_bands.proofs.TableLaws.{Tables, tables}
 use Rattle.sbr_time_grid.proofs.Laws.{slot-range}

@@ -1,4 +1,4 @@
-use Prim.Native.Nat.{_+_, _-_, _≤_, _<_}
+use Prim.Native.Nat.{_+_, _-_, _≤_}
 use mathlib.Core.Path.{_≡_}
 use Rattle.sbr_qmf.specs.Qmf.{columns}
 use Rattle.sbr_floats.specs.Floats.{zero64}

@@ -2,7 +2,6 @@ use mathlib.Core.Path.{_≡_, refl}
 use mathlib.Core.Bool.{false}
 use Prim.Native.Nat.{_≤_, _-_}
 use native.Mathlib.Omega.{arith}
-use borrow.Author.Needs.{needs}
 use lib.ListN.{getD}
 use lib.Ieee.{nan, isNan, ofBits}
 use Rattle.sbr_onsets.specs.Onsets.{peakOf}

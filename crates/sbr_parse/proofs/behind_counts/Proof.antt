@@ -7,7 +7,7 @@ use borrow.Author.Needs.{needs}
 use lib.Pow.{pow-pos, pow-mono}
 use Rattle.sbr_grid.proofs.Widths.{width-ptr}
 use Rattle.sbr_grid.specs.Grid.{ptrBits}
-use Rattle.sbr_parse.proofs.ParseLaws.{pointer-width, behind-short, behind-given}
+use Rattle.sbr_parse.proofs.ParseLaws.{pointer-narrow, behind-short, behind-given}
 use Rattle.sbr_parse.proofs.behind_counts.Statement.{statement}
 use Rattle.sbr_parse.proofs.behind_counts.Tie as tie
 
@@ -17,7 +17,7 @@ width c = c .ptr-bits .ensures ∙ width-ptr _ (omega arith) (omega arith)
 
 -- it has at most three bits
 narrow : (c : tie.After-ptr-bits) → c .ptr-bits .result ≤ 3
-narrow c = rw (width c) (pointer-width _ (omega arith))
+narrow c = rw (width c) (pointer-narrow _ (omega arith))
 
 add-num-env : tie.Need-add-num-env
 add-num-env c = search needs
@@ -82,11 +82,11 @@ cast-left c = search needs
 sub-left : tie.Need-sub-left
 sub-left c = search needs
 
-lengths-requires : tie.Need-lengths-requires
-lengths-requires c κs = search needs
+rel-bords-requires : tie.Need-rel-bords-requires
+rel-bords-requires c κs = search needs
 
-lengths-requires-2 : tie.Need-lengths-requires-2
-lengths-requires-2 c κs = search needs
+rel-bords-requires-2 : tie.Need-rel-bords-requires-2
+rel-bords-requires-2 c κs = search needs
 
 resolutions-requires : tie.Need-resolutions-requires
 resolutions-requires c κs = search needs
@@ -111,7 +111,7 @@ returns-2 c =
     let q1 = q0 - 2 * a .k in
     let q2 = q1 - ptrBits n in
     let e = width w in
-    rw (c .before .noise-of .ensures, c .before .before .resolutions .ensures, c .before .before .before .before .lengths .ensures, c .before .before .before .lengths2 .ensures, c .some-bits .ensures, e)
+    rw (c .before .noise-of .ensures, c .before .before .resolutions .ensures, c .before .before .before .before .rel-bords .ensures, c .before .before .before .rel-bords2 .ensures, c .some-bits .ensures, e)
     (behind-given (a .class) (a .b0) (a .b1) (a .j) (a .k) (a .body .width) q0 q1 q2 (q2 - n) (a .body .value)
     (w .before .pre .2) (omega arith) (omega arith) (omega arith) (omega arith))
 
@@ -139,8 +139,8 @@ behind-counts-spec =
     sub-behind-pointer
     cast-left
     sub-left
-    lengths-requires
-    lengths-requires-2
+    rel-bords-requires
+    rel-bords-requires-2
     resolutions-requires
     noise-of-requires
     some-bits-requires

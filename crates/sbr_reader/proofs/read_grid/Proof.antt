@@ -20,7 +20,7 @@ use Rattle.sbr_grid.specs.Times.{Times, slotCount}
 use Rattle.sbr_time_grid.specs.TimeGrid.{timeGrid, derivedOf}
 use Rattle.sbr_time_grid.specs.declared.Derived.{Derived}
 use Rattle.sbr_reader.specs.Read.{isBorder, readGrid}
-use Rattle.sbr_parse.specs.Parse.{parsedOf, held}
+use Rattle.sbr_parse.specs.Parse.{parsedOf, windowBits}
 use Rattle.sbr_parse.specs.Syntax.{sbrGrid}
 use Rattle.sbr_parse.specs.declared.Parsed.{Parsed}
 use Rattle.sbr_reader.specs.Read
@@ -48,12 +48,12 @@ slots c = sym (c .before .before .before .is-slot-count .ensures) ∙ not-false 
 
 -- what was parsed is what reading the window comes to
 outcome : (c : tie.After-sbr-grid) → let a = start c .args in
-    c .sbr-grid .result ≡ parsedOf (sbrGrid (held (windowOf (a .buf .now) (a .pos))))
-outcome c = c .sbr-grid .ensures ∙ ap (λ (w : Window). parsedOf (sbrGrid (held w))) (c .before .peek-bits .ensures)
+    c .sbr-grid .result ≡ parsedOf (sbrGrid (windowBits (windowOf (a .buf .now) (a .pos))))
+outcome c = c .sbr-grid .ensures ∙ ap (λ (w : Window). parsedOf (sbrGrid (windowBits w))) (c .before .peek-bits .ensures)
 
 -- the record that was read, and the bits that are left
 got : (c : tie.After-enum-told) → let a = start (window c) .args in
-    (x : Grid × List Bool) × (sbrGrid (held (windowOf (a .buf .now) (a .pos))) ≡ answered x)
+    (x : Grid × List Bool) × (sbrGrid (windowBits (windowOf (a .buf .now) (a .pos))) ≡ answered x)
 got c = given-is _ (ap (λ (x : Parsed). x .answer) (sym (outcome (window c))) ∙ c .enum-told .given .1)
 
 -- what was parsed, where a record was read

@@ -1,7 +1,7 @@
 -- `sbr_run::receive_frame` meets its contract.
 use borrow.Author.Needs.{needs}
 use Rattle.sbr_run.specs.Readings.{reading}
-use Rattle.sbr_run.specs.Forms.{readingFrom}
+use Rattle.sbr_run.specs.Place.{readingFrom}
 use Rattle.sbr_run.proofs.TurnWays.{received-is}
 use Rattle.sbr_run.proofs.receive_frame.Statement.{statement}
 use Rattle.sbr_run.proofs.receive_frame.Tie as tie

@@ -12,9 +12,10 @@ use Rattle.sbr_writer.specs.Write.{Wrote, writeGrid, writtenOf, bytesAfter}
 use Rattle.sbr_grid.proofs.Outcomes.{refused-is}
 use Rattle.sbr_encoder.specs.declared.Election.{Election}
 use Rattle.sbr_encoder.specs.Election.{electionOf}
+use Rattle.sbr_encoder.proofs.EveryElection.{every-election}
 use Rattle.sbr_run.specs.Run.{Turn}
-use Rattle.sbr_run.specs.Forms.{turnFrom}
-use Rattle.sbr_run.proofs.TurnWays.{electing, turned, elect-refuses, write-refuses, sends, Chosen, chosen, Timed, timed, wrote-to, wrote-not, sent-is}
+use Rattle.sbr_run.specs.Place.{turnFrom}
+use Rattle.sbr_run.proofs.TurnWays.{turned, choice-refuses, write-refuses, sends, Chosen, chosen, Timed, timed, wrote-to, wrote-not, sent-is}
 use Rattle.sbr_run.proofs.send_frame.Statement.{statement}
 use Rattle.sbr_run.proofs.send_frame.Tie as tie
 
@@ -35,11 +36,11 @@ turn-at c =
     turnFrom (a .num-time-slots) (a .high .now) (a .low .now) (a .x .now) (a .variable-borders) (a .bytes .now) (a .place)
 
 -- what was elected
-elected : (c : tie.After-elect-grid) → c .elect-grid .result ≡ electionOf (electing (turn-at c))
+elected : (c : tie.After-elect-grid) → c .elect-grid .result ≡ electionOf (turn-at c .chosen)
 elected c = rw (toZ-ofZ w32 (start c .args .place .carried .border) (search needs)) at (c .elect-grid .ensures)
 
-got : (c : tie.After-enum-told) → Chosen (turn-at (c .before .before)) (c .before .before .elect-grid .result)
-got c = chosen _ _ (elected (c .before .before)) (c .enum-told .given .1)
+got : (c : tie.After-enum-told) → let t = turn-at (c .before .before) in Chosen (t .timeSlots) (t .chosen) (c .before .before .elect-grid .result)
+got c = chosen _ _ _ _ (every-election _ _ _ _ _ _) (elected (c .before .before)) (c .enum-told .given .1)
 
 -- the time grid of what was elected
 time : (c : tie.After-derive-time-grid) → let g = got (told c) in Timed (turn-at (told c .before .before) .timeSlots) (g .elected .grid) (c .derive-time-grid .result)
@@ -72,7 +73,7 @@ returns : tie.Need-returns
 returns c =
     let d = c .before .before .before .before in
     let m = c .before .before .answer .given in
-    let r = elect-refuses (turn-at d) (m .0 .0) (refused-is _ (m .0 .0) (ap (λ (x : Election). x .answer) (sym (elected d)) ∙ m .1)) in
+    let r = choice-refuses (turn-at d) (m .0 .0) (refused-is _ (m .0 .0) (ap (λ (x : Election). x .answer) (sym (elected d)) ∙ m .1)) in
     rw r (c .refusal .ensures, refl)
 
 enum-told : tie.Need-enum-told

@@ -4,7 +4,7 @@ use native.Mathlib.Omega.{arith}
 use lib.ListN.{length, length-set}
 use Rattle.sbr_grid.proofs.Laws.{length-first, getD-first}
 use Rattle.sbr_search.specs.Search.{bare}
-use Rattle.sbr_search.specs.Forms.{onsetList}
+use Rattle.sbr_build.specs.Cases.{onsetList}
 use Rattle.sbr_search.proofs.SearchCases.{Bared, bare-next, bare-end}
 use Rattle.sbr_search.proofs.bare_borders.Statement.{statement}
 use Rattle.sbr_search.proofs.bare_borders.Tie as tie

@@ -5,9 +5,9 @@ use borrow.Author.Needs.{needs}
 use borrow.Author.Tests.{not-true}
 use Rattle.sbr_search.specs.Search.{bare, planned, multiOnsetGrid}
 use Rattle.sbr_search.specs.Search as of
-use Rattle.sbr_search.specs.Forms.{onsetList, multiOf}
-use Rattle.sbr_search.specs.Forms.{planOf, bestOf}
-use Rattle.sbr_borders.specs.Forms.{wantedList, InFrame}
+use Rattle.sbr_search.specs.Cheapest.{multiOf, planOf, bestOf}
+use Rattle.sbr_build.specs.Cases.{onsetList}
+use Rattle.sbr_borders.specs.Wanted.{wantedList, InFrame}
 use Rattle.sbr_search.proofs.SearchEnds.{beats-any}
 use Rattle.sbr_search.proofs.SearchFrames.{bounds, first-onset}
 use Rattle.sbr_search.proofs.SearchCases.{bare-framed, isolated-framed, wins-any, plain-loses, multi-by}

@@ -7,7 +7,7 @@ use Rattle.sbr_grid.specs.Grid.{first}
 use Rattle.sbr_grid.proofs.Laws.{length-first}
 use Rattle.sbr_search.specs.Search.{beats}
 use Rattle.sbr_borders.specs.Borders.{lastOr}
-use Rattle.sbr_search.specs.Forms.{bestOf}
+use Rattle.sbr_search.specs.Cheapest.{bestOf}
 use Rattle.sbr_search.proofs.SearchEnds.{beats-any, end-early, end-dear, end-unfit, end-fit}
 use Rattle.sbr_borders.proofs.BorderFits.{fit-leading, fit-nothing, fit-within}
 use Rattle.sbr_search.proofs.try_end.Statement.{statement}

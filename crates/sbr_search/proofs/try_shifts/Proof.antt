@@ -5,7 +5,7 @@ use borrow.Author.Tests.{not-true, not-false}
 use borrow.Author.Needs.{needs}
 use Rattle.sbr_grid.specs.Grid.{first}
 use Rattle.sbr_search.specs.Search.{tryEnds}
-use Rattle.sbr_search.specs.Forms.{bestOf, Within}
+use Rattle.sbr_search.specs.Cheapest.{bestOf, Within}
 use Rattle.sbr_search.proofs.SearchEnds.{beats-any, ends-next, ends-end, shifts-dear, shifts-fall, shifts-rise}
 use Rattle.sbr_search.proofs.try_shifts.Statement.{statement}
 use Rattle.sbr_search.proofs.try_shifts.Tie as tie

@@ -6,15 +6,15 @@ use borrow.Author.Needs.{needs}
 use Rattle.sbr_grid.specs.Grid.{first}
 use Rattle.sbr_time_grid.proofs.Borders.{zeros-at}
 use Rattle.sbr_search.specs.Search.{tryFrom}
-use Rattle.sbr_search.specs.Forms.{bestOf, Within}
-use Rattle.sbr_borders.specs.Forms.{wantedList, Turning}
-use Rattle.sbr_search.proofs.SearchEnds.{search-begin, search-next, search-last, search-end, turn-next, turn-last}
+use Rattle.sbr_search.specs.Cheapest.{bestOf, Within}
+use Rattle.sbr_borders.specs.Wanted.{wantedList, ShiftsFit}
+use Rattle.sbr_search.proofs.SearchEnds.{search-begin, search-next, search-last, search-end, shifts-next, shifts-last}
 use Rattle.sbr_search.proofs.varvar_from_borders.Statement.{statement}
 use Rattle.sbr_search.proofs.varvar_from_borders.Tie as tie
 
 abbrev Inv-loop : tie.InvT-loop
 Inv-loop lead w nts shifts₀ best₀ turn₀ shifts best turn =
-    (turn ≤ 24) × Within (w .count) best × Turning (w .count) shifts
+    (turn ≤ 24) × Within (w .count) best × ShiftsFit (w .count) shifts
     × (tryFrom (24 - turn) nts lead (wantedList w) (some (first 0 (w .count) shifts)) (bestOf (w .count) best)
     ≡ Rattle.sbr_search.specs.Search.search nts lead (wantedList w))
 
@@ -46,15 +46,15 @@ returns c =
     let n = c .before .before in
     let s = n .before .before .before in (
       search-last 24 _ _ _ _ _ _ _ _ (omega arith) (n .before .try-shifts .ensures .0)
-          (turn-last (n .next-shifts .result) (s .before .args .w .count) _ (c .enum-told .given .1) (n .next-shifts .ensures .0)) (s .loop .inv .3),
+          (shifts-last (n .next-shifts .result) (s .before .args .w .count) _ (c .enum-told .given .1) (n .next-shifts .ensures .0)) (s .loop .inv .3),
       n .before .try-shifts .ensures .1,
     )
 
 enum-told-2 : tie.Need-enum-told-2 Inv-loop μ-loop
 enum-told-2 c = search needs
 
-add--turn : tie.Need-add--turn Inv-loop μ-loop
-add--turn c = omega arith
+add--tried : tie.Need-add--tried Inv-loop μ-loop
+add--tried c = omega arith
 
 loop-less : tie.Need-loop-less Inv-loop μ-loop
 loop-less c = omega arith
@@ -67,7 +67,7 @@ loop-again c =
       n .before .try-shifts .ensures .1,
       n .next-shifts .ensures .1,
       search-next 24 _ _ _ _ _ _ _ _ _ (omega arith) (n .before .try-shifts .ensures .0)
-          (turn-next (n .next-shifts .result) (s .before .args .w .count) _ (c .before .enum-told2 .given .1) (n .next-shifts .ensures .0)) (s .loop .inv .3),
+          (shifts-next (n .next-shifts .result) (s .before .args .w .count) _ (c .before .enum-told2 .given .1) (n .next-shifts .ensures .0)) (s .loop .inv .3),
     )
 
 returns-2 : tie.Need-returns-2 Inv-loop μ-loop
@@ -87,7 +87,7 @@ varvar-from-borders-spec =
     enum-told
     returns
     enum-told-2
-    add--turn
+    add--tried
     loop-less
     loop-again
     returns-2)

@@ -1,13 +1,13 @@
-use mathlib.Core.Path.{_≡_, sym, ap, _∙_}
-use Prim.Native.Nat.{ℕ, _+_, _-_, _*_, _≤_, _<_}
+use mathlib.Core.Path.{_≡_, _∙_}
+use Prim.Native.Nat.{ℕ, _+_, _-_, _*_, _≤_}
 use lib.ListN.{length, getD, length-set}
 use Rattle.sbr_grid.specs.declared.FrameClass.{FrameClass}
 use mathlib.Core.List.{List}
 use Rattle.sbr_grid.specs.Grid.{byClass, viewOf}
-use Rattle.sbr_time_grid.specs.TimeGrid.{slots, absBordLead, nRelLead, relBordLead, sum}
+use Rattle.sbr_time_grid.specs.TimeGrid.{slots, relBordLead, slotSum}
 use Rattle.sbr_time_grid.proofs.Laws.{Fit, fit}
 use Rattle.sbr_time_grid.proofs.Filled.{Filled, filled-one, filled-more, filled-since}
-use Rattle.sbr_time_grid.proofs.Borders.{leadAt, lead-first, lead-next, lead-read, sum-same}
+use Rattle.sbr_time_grid.proofs.Borders.{lead-first, lead-next, lead-read, sum-same}
 use borrow.Author.Needs.{needs}
 use native.Mathlib.Omega.{arith}
 use Rattle.sbr_time_grid.proofs.border.leading.Statement.{statement}
@@ -19,8 +19,8 @@ lead class step rel l = byClass class step 0 (slots (getD rel l 0)) (slots (getD
 
 abbrev Inv-loop : tie.InvT-loop
 Inv-loop n t₀ class rel step b₀ l₀ l-end t b l =
-    (l ≤ l-end) × (b ≡ b₀ + sum (lead class step rel) l) × (b ≤ 255 + 512 * l) × (length t ≡ 6)
-    × Filled (λ j. b₀ + sum (lead class step rel) j) 0 l t₀ t
+    (l ≤ l-end) × (b ≡ b₀ + slotSum (lead class step rel) l) × (b ≤ 255 + 512 * l) × (length t ≡ 6)
+    × Filled (λ j. b₀ + slotSum (lead class step rel) j) 0 l t₀ t
 
 abbrev μ-loop : tie.MeasureT-loop
 μ-loop n t₀ class rel step b₀ l₀ l-end t b l = l-end - l

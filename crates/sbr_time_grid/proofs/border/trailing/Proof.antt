@@ -1,10 +1,10 @@
 use mathlib.Core.Path.{_≡_, _∙_}
 use mathlib.Core.List.{List}
-use Prim.Native.Nat.{ℕ, _+_, _-_, _≤_, _<_}
+use Prim.Native.Nat.{ℕ, _+_, _-_, _≤_}
 use native.Mathlib.Nat.{sub-zero}
 use lib.ListN.{length, getD, length-set}
 use Rattle.sbr_grid.specs.Grid.{viewOf}
-use Rattle.sbr_time_grid.specs.TimeGrid.{slots, absBordTrail, nRelLead, relBordTrail, sum}
+use Rattle.sbr_time_grid.specs.TimeGrid.{slots, relBordTrail, slotSum}
 use Rattle.sbr_time_grid.proofs.Laws.{Fit, fit}
 use Rattle.sbr_time_grid.proofs.Filled.{Filled, filled-one, filled-more, filled-since}
 use Rattle.sbr_time_grid.proofs.Borders.{trail-first, trail-next, trail-at, trail-read, sum-same}
@@ -19,8 +19,8 @@ trail rel l = slots (getD rel l 0)
 
 abbrev Inv-loop : tie.InvT-loop
 Inv-loop n t₀ rel le b₀ l₀ l-end t b l =
-    (l ≤ l-end) × (b ≡ b₀ - sum (trail rel) l) × (length t ≡ 6)
-    × Filled (λ j. b₀ - sum (trail rel) (le - j)) (le - l) le t₀ t
+    (l ≤ l-end) × (b ≡ b₀ - slotSum (trail rel) l) × (length t ≡ 6)
+    × Filled (λ j. b₀ - slotSum (trail rel) (le - j)) (le - l) le t₀ t
 
 abbrev μ-loop : tie.MeasureT-loop
 μ-loop n t₀ rel le b₀ l₀ l-end t b l = l-end - l

@@ -4,7 +4,7 @@ use Prim.Native.Nat.{_+_, _≤_}
 use Rattle.sbr_grid.specs.Grid.{first}
 use Rattle.sbr_grid.proofs.Laws.{length-first}
 use Rattle.sbr_grid.proofs.Widths.{width-ptr}
-use Rattle.sbr_writer.proofs.Gather.{length-twos, chain, space-then, space-field, narrow, pointer-fits, pointer-width}
+use Rattle.sbr_writer.proofs.Gather.{length-twos, chain, space-then, space-field, narrow, pointer-fits, pointer-narrow}
 use Rattle.sbr_writer.specs.Code.{Space}
 use native.Mathlib.Omega.{arith}
 use borrow.Author.Needs.{needs}
@@ -43,7 +43,7 @@ push-requires-3 c κs =
     let s = c .before .before .before .before in
     let k = s .args .count in
     let r = c .before .before in
-    let w : c .ptr-bits .result ≤ 3 = pointer-width (k + 1) _ (omega arith) (omega (arith, s .pre .2)) (c .ptr-bits .ensures) in (
+    let w : c .ptr-bits .result ≤ 3 = pointer-narrow (k + 1) _ (omega arith) (omega (arith, s .pre .2)) (c .ptr-bits .ensures) in (
       space-then (after2 r) (c .before .push-rel .ensures)
           (omega (arith, length-twos (first 0 k (s .args .rel)), length-first 0 k (s .args .rel), s .pre .2)),
       pointer-fits (k + 1) (s .args .pointer) _ (omega arith) (omega (arith, s .pre .2)) (s .pre .4) (c .ptr-bits .ensures),

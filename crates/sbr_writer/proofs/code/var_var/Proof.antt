@@ -11,7 +11,7 @@ use Rattle.sbr_grid.proofs.Widths.{width-ptr}
 use Rattle.sbr_writer.specs.Syntax.{bodyBits}
 use Rattle.sbr_writer.specs.Code.{Space}
 use Rattle.sbr_writer.proofs.Facts.{Told, told, two-told, var-var-view}
-use Rattle.sbr_writer.proofs.Gather.{chain, narrow, space-then, space-field, length-twos, pointer-fits, pointer-width, var-var-bits}
+use Rattle.sbr_writer.proofs.Gather.{chain, narrow, space-then, space-field, length-twos, pointer-fits, pointer-narrow, var-var-bits}
 use native.Mathlib.Omega.{arith}
 use borrow.Author.Needs.{needs}
 use Rattle.sbr_writer.proofs.code.var_var.Statement.{statement}
@@ -45,7 +45,7 @@ space3 c =
 width : (c : tie.After-ptr-bits) → c .ptr-bits .result ≤ 3
 width c =
     let s = c .before .before .before .before .before .before .before in
-    pointer-width (s .args .g .«num_env») _ (omega (arith, fields s .numbers .some)) (fields s .numbers .most) (c .ptr-bits .ensures)
+    pointer-narrow (s .args .g .«num_env») _ (omega (arith, fields s .numbers .some)) (fields s .numbers .most) (c .ptr-bits .ensures)
 
 two-counts-requires : tie.Need-two-counts-requires
 two-counts-requires c κs =

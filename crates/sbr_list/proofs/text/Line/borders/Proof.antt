@@ -4,7 +4,7 @@ use native.Mathlib.Omega.{arith}
 use borrow.Author.Needs.{needs}
 use lib.ListN.{drop}
 use Rattle.sbr_grid.specs.Grid.{first}
-use Rattle.sbr_list.specs.Line.{appended}
+use Rattle.sbr_list.specs.Line.{withText}
 use Rattle.sbr_list.proofs.Lines.{behind, small-at, behind-next, spaced-done}
 use Rattle.sbr_list.proofs.text.Line.borders.Statement.{statement}
 use Rattle.sbr_list.proofs.text.Line.borders.Tie as tie
@@ -12,7 +12,7 @@ use Rattle.sbr_list.proofs.text.Line.borders.Tie as tie
 abbrev Inv-loop : tie.InvT-loop
 Inv-loop borders last line₀ j₀ j-end line j =
     let t = first 0 (last + 1) borders in
-    (j ≤ last + 1) × (appended line (behind (drop j t)) ≡ appended line₀ (behind (drop 1 t)))
+    (j ≤ last + 1) × (withText line (behind (drop j t)) ≡ withText line₀ (behind (drop 1 t)))
 
 abbrev μ-loop : tie.MeasureT-loop
 μ-loop borders last line₀ j₀ j-end line j = last + 1 - j

@@ -3,13 +3,13 @@ use Prim.Native.Nat.{_≤_, _-_}
 use native.Mathlib.Omega.{arith}
 use borrow.Author.Needs.{needs}
 use lib.ListN.{length, drop}
-use Rattle.sbr_list.specs.Line.{appended}
+use Rattle.sbr_list.specs.Line.{withText}
 use Rattle.sbr_list.proofs.Lines.{appended-next, appended-done}
 use Rattle.sbr_list.proofs.text.Line.bytes.Statement.{statement}
 use Rattle.sbr_list.proofs.text.Line.bytes.Tie as tie
 
 abbrev Inv-loop : tie.InvT-loop
-Inv-loop text line₀ j₀ j-end line j = (j ≤ length text) × (appended line (drop j text) ≡ appended line₀ text)
+Inv-loop text line₀ j₀ j-end line j = (j ≤ length text) × (withText line (drop j text) ≡ withText line₀ text)
 
 abbrev μ-loop : tie.MeasureT-loop
 μ-loop text line₀ j₀ j-end line j = length text - j

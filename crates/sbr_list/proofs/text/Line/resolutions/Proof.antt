@@ -7,7 +7,7 @@ use borrow.Author.Needs.{needs}
 use lib.ListN.{drop}
 use Rattle.sbr_grid.specs.Grid.{first}
 use Rattle.sbr_list.specs.Listing.{resolution}
-use Rattle.sbr_list.specs.Line.{appended}
+use Rattle.sbr_list.specs.Line.{withText}
 use Rattle.sbr_list.proofs.Lines.{letter-next, letters-done}
 use Rattle.sbr_list.proofs.text.Line.resolutions.Statement.{statement}
 use Rattle.sbr_list.proofs.text.Line.resolutions.Tie as tie
@@ -15,7 +15,7 @@ use Rattle.sbr_list.proofs.text.Line.resolutions.Tie as tie
 abbrev Inv-loop : tie.InvT-loop
 Inv-loop high count line₀ j₀ line j =
     let t = map resolution (first false count high) in
-    (j ≤ count) × (appended line (drop j t) ≡ appended line₀ t)
+    (j ≤ count) × (withText line (drop j t) ≡ withText line₀ t)
 
 abbrev μ-loop : tie.MeasureT-loop
 μ-loop high count line₀ j₀ line j = count - j

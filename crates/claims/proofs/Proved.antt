@@ -1,0 +1,27 @@
+-- The claims hold.
+use Rattle.claims.specs.Claims.{Claims}
+use Rattle.sbr_grid.proofs.Widths.{pointer-width}
+use Rattle.sbr_parse.proofs.Inverse.{reads-back, writes-back}
+use Rattle.sbr_reader.proofs.Frames.{frame-writes}
+use Rattle.sbr_choice.proofs.Best.{search-is-least, none-exactly}
+use Rattle.sbr_choice.proofs.Cases.{marked-cases}
+use Rattle.sbr_choice.proofs.Every.{chosen-is-sound}
+use Rattle.sbr_encoder.proofs.EveryElection.{every-election}
+use Rattle.sbr_run.proofs.Term3.{every-call, term3}
+use Rattle.sbr_sample.proofs.Sampled.{sampled}
+
+pub claims : Claims
+claims = record {
+  pointer-width = pointer-width;
+  reads-back = reads-back;
+  writes-back = writes-back;
+  frame-writes = frame-writes;
+  search-is-least = search-is-least;
+  none-exactly = none-exactly;
+  chosen-is-sound = chosen-is-sound;
+  marked-cases = marked-cases;
+  every-election = every-election;
+  every-call = every-call;
+  term3 = term3;
+  sample = sampled;
+}

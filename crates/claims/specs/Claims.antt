@@ -1,0 +1,31 @@
+-- Every claim that belongs to no function, a field each, in the order of the three terms. Each stands in the crate that proves it; proofs/Proved.antt
+-- gives them, so that none can be lost.
+use Rattle.sbr_grid.specs.Grid.{PointerWidth}
+use Rattle.sbr_parse.specs.Inverse.{ReadsBack, WritesBack}
+use Rattle.sbr_reader.specs.Inverse.{FrameWrites}
+use Rattle.sbr_choice.specs.Plans.{SearchIsLeast, NoneExactly}
+use Rattle.sbr_choice.specs.Chosen.{ChosenIsSound, MarkedCases}
+use Rattle.sbr_encoder.specs.Electable.{EveryElection}
+use Rattle.sbr_run.specs.Term3.{Term3, EveryCall}
+use Rattle.sbr_sample.specs.Sample.{Sample}
+
+pub record Claims : Type 1 where
+  -- ---- term 2: grids, bits and energies are those of the standard and of the Rust
+  -- the width of bs_pointer is the least that tells the envelope count + 1 values apart
+  pub pointer-width : PointerWidth
+  -- what a record writes is read back, and what was read is written again
+  pub reads-back : ReadsBack
+  pub writes-back : WritesBack
+  pub frame-writes : FrameWrites
+  -- the border search answers the first of all plans, and none exactly where there is none
+  pub search-is-least : SearchIsLeast
+  pub none-exactly : NoneExactly
+  -- every chosen grid has a time grid from the lead to 0 to 3 slots past the frame; the marked cases
+  pub chosen-is-sound : ChosenIsSound
+  pub marked-cases : MarkedCases
+  -- ---- term 3: what any list of turns sends, any receiver reads back
+  pub every-election : EveryElection
+  pub every-call : EveryCall
+  pub term3 : Term3
+  -- a run with its readings, computed and by the claim
+  pub sample : Sample

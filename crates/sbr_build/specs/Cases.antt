@@ -1,0 +1,25 @@
+-- Onsets as the builders take them, and what a frame may hand to the builders: as many onsets as the scan finds at most, four slots or more apart.
+use mathlib.Core.Path.{_≡_}
+use mathlib.Core.Bool.{true}
+use mathlib.Core.List.{List, [], _∷_}
+use Prim.Native.Nat.{ℕ, zero, suc, _+_, _≤_, _<_}
+use Rattle.sbr_grid.specs.Grid.{first}
+use Rattle.sbr_grid.specs.Times.{slotCount}
+use Rattle.sbr_build.specs.declared.Onsets.{Onsets}
+
+-- the onsets of an array with a count
+abbrev pub onsetList : Onsets → List ℕ
+onsetList o = first 0 (o .count) (o .slot)
+
+-- at most k onsets from slot lo on and before n, each 4 or more after the one before
+abbrev pub OnsetsFrom : ℕ → ℕ → ℕ → List ℕ → Type 0
+OnsetsFrom zero lo n [] = Unit {0}
+OnsetsFrom zero lo n (s ∷ os) = ⊥
+OnsetsFrom (suc k) lo n [] = Unit {0}
+OnsetsFrom (suc k) lo n (s ∷ os) = (lo ≤ s) × (s < n) × OnsetsFrom k (s + 4) n os
+
+-- what a frame may hand to the builders
+pub record Case (n lead : ℕ) (os : List ℕ) : Type 0 where
+  pub slots : slotCount n ≡ true
+  pub clamped : lead ≤ 3
+  pub onsets : OnsetsFrom 3 4 n os

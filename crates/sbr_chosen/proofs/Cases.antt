@@ -1,8 +1,0 @@
--- The definitions give every line of the marked cases.
-use mathlib.Core.Path.{refl}
-use Rattle.sbr_chosen.specs.Chosen.{MarkedCases}
-use Rattle.sbr_chosen.proofs.Computed.{timesOf, chosenOf}
-
-pub marked-cases : MarkedCases
-unfolding timesOf chosenOf
-marked-cases s os = refl

@@ -1,4 +1,0 @@
-pub mod Computed
-pub mod Cases
-pub mod Every
-pub mod Best

@@ -1,2 +1,0 @@
-pub mod Elect
-pub mod Chosen
