@@ -55,7 +55,7 @@ module _ (l : List ℕ) (p n : ℕ) (b : ℤ) (c : Carried) (r : FrameRead) (e :
 
     -- its counts are small
     pub read-few : Few (r .grid)
-    read-few = let f = frame-of in let w = frame-writes l p n b (f .0) (f .1) .1 in rw (e ∙ ap (frameReadOf p c) (f .1)) (few-of (f .0 .grid) (w .fits) (w .clear))
+    read-few = let f = frame-of in let w = frame-writes l p n b (f .0) (f .1) .written in rw (e ∙ ap (frameReadOf p c) (f .1)) (few-of (f .0 .grid) (w .fits) (w .clear))
 
     -- it is given whole
     pub has-read : (y : ℤ) (ns fs r0 r1 te tq : List ℕ) (la : ℤ) → y ≡ r .carried .border → RecordAt (r .grid) ns fs r0 r1 → TimesAt (r .time) te tq la

@@ -17,6 +17,7 @@ use Rattle.sbr_grid.specs.Times.{slotCount}
 use Rattle.sbr_time_grid.proofs.Ends.{time-ends}
 use Rattle.sbr_qmf.specs.Qmf.{SampleAt, columns}
 use Rattle.sbr_energy.specs.Energy.{slotEnergy}
+use Rattle.sbr_writer.proofs.Facts.{writable-view}
 use Rattle.sbr_parse.proofs.Inverse.{reads-back}
 use Rattle.sbr_build.specs.Cases.{Case}
 use Rattle.sbr_choice.specs.Choice.{chosenGrid}
@@ -41,14 +42,10 @@ reading rest g = answered (g, rest)
 sent : (n lead : ℕ) (g : Grid) → Sound n lead g → Kept g → Electable n lead g
 unfolding reading
 sent n lead g s k = record {
-  time = s .time;
-  derived = s .derived;
-  starts = s .starts;
-  ends-from = s .ends-from;
-  ends-by = s .ends-by;
+  sound = s;
   fits = k .fits;
   reads = λ rest. reads-back g rest (k .fits) ∙ ap (reading rest) (k .clear);
-  unlike = s .unlike;
+  kept = writable-view g (k .fits);
 }
 
 -- so is a grid of another class than FixFix with other resolutions

@@ -157,7 +157,7 @@ pub frame-shows : (l : List ℕ) (p n : ℕ) (b : ℤ) (f : Accepted) (i : ℕ) 
 unfolding readGrid
 frame-shows l p n b f i e h =
     let w = frame-writes l p n b f e in
-    let s = simp and-eq-true-iff at (w .1 .fits) in
+    let s = simp and-eq-true-iff at (w .written .fits) in
     let k = fields-told (f .grid) (s .0) in
     let t = times-short n (f .grid) (f .time) (read-told n b p _ f e) (k .pointed) in
     record {

@@ -20,9 +20,8 @@ use Rattle.sbr_time_grid.specs.TimeGrid.{byPointer, tE, rises, middleBorder, co
 use Rattle.sbr_writer.specs.Syntax.{gridBits}
 use Rattle.sbr_parse.specs.Syntax.{sbrGrid}
 use Rattle.sbr_reader.specs.Read.{Accepted, isBorder, meets, timed, parsed, readGrid}
-use Rattle.sbr_parse.specs.Inverse.{WrittenAs}
-use Rattle.sbr_reader.specs.Inverse.{FrameWrites}
-use Rattle.sbr_writer.proofs.Facts.{both}
+use Rattle.sbr_reader.specs.Inverse.{Rewritten, FrameWrites}
+use Rattle.sbr_writer.proofs.Facts.{both, writable-view}
 use Rattle.sbr_parse.proofs.Inverse.{Sent, sent, writes-back}
 
 -- an answer behind a test is the one where the test holds
@@ -91,23 +90,24 @@ met n b g q t f h =
     (ap (valueOr (λ x. x .grid) g) e, ap (valueOr (λ x. x .position) q) e)
 
 module _ (n : ℕ) (b : ℤ) (p : ℕ) (bs : List Bool) (f : Accepted) where
-  -- what is to be shown of a frame read from bs
-  abbrev Rewrites : Type 0
-  Rewrites = (r : List Bool) × WrittenAs bs (f .grid) r × (f .position ≡ p + length (gridBits (f .grid)))
-
   -- of a frame whose time grid came to o
   written : (g : Grid) (rest : List Bool) (o : Outcome Times) → sbrGrid bs ≡ answered (g, rest) → timeGrid n g ≡ o
-      → timed n b g (p + (length bs - length rest)) o ≡ answered f → Rewrites
+      → timed n b g (p + (length bs - length rest)) o ≡ answered f → Rewritten bs p f
   written g rest (refused x) h e k = let z : _≡_ {A = ℕ} 0 1 = cc in absurd (omega arith)
   written g rest (answered t) h e k =
       let s = sent bs g rest h in
       let l = pointed n g t (s .0) (s .2) e (decLe (numEnv g) 1) (fixed (g .frameClass)) in
       let w = writes-back bs g rest h (le-leb _ _ l) in
       let m = met n b g (p + (length bs - length rest)) t f k in
-      (rest, rw (m .0) at w, rw (← (m .0), ← (m .1)) (omega (arith, ap length (w .bits), length-append (gridBits g) rest)))
+      record {
+        rest = rest;
+        written = rw (m .0) at w;
+        position = rw (← (m .0), ← (m .1)) (omega (arith, ap length (w .bits), length-append (gridBits g) rest));
+        kept = rw (m .0) at (writable-view g (w .fits));
+      }
 
   -- of a frame whose bits came to o
-  read : (o : Outcome (Grid × List Bool)) → sbrGrid bs ≡ o → parsed n b p (length bs) o ≡ answered f → Rewrites
+  read : (o : Outcome (Grid × List Bool)) → sbrGrid bs ≡ o → parsed n b p (length bs) o ≡ answered f → Rewritten bs p f
   read (refused x) e k = let z : _≡_ {A = ℕ} 0 1 = cc in absurd (omega arith)
   read (answered r) e k = written (r .0) (r .1) (timeGrid n (r .0)) e refl k
 

@@ -7,12 +7,18 @@ use lib.IntN.{ℤ}
 use lib.ListN.{length}
 use Rattle.bits.specs.Room.{bitsFrom}
 use Rattle.sbr_grid.specs.Refusals.{answered}
+use Rattle.sbr_grid.specs.Grid.{viewOf, recordOf}
 use Rattle.sbr_writer.specs.Syntax.{gridBits}
 use Rattle.sbr_parse.specs.Inverse.{WrittenAs}
 use Rattle.sbr_reader.specs.Read.{Accepted, readGrid}
 
--- the record of every accepted frame writes the bits that it was read from, and the position after the frame is past the bits that the record writes
+-- its record writes the bits bs that it was read from, up to its position; and a host that hands on the record handed out for it hands on this grid
+pub record Rewritten (bs : List Bool) (p : ℕ) (f : Accepted) : Type 0 where
+  pub rest : List Bool
+  pub written : WrittenAs bs (f .grid) rest
+  pub position : f .position ≡ p + length (gridBits (f .grid))
+  pub kept : viewOf (recordOf (f .grid)) ≡ f .grid
+
 abbrev pub FrameWrites : Type 0
 FrameWrites =
-    (l : List ℕ) (p n : ℕ) (b : ℤ) (f : Accepted) → readGrid l p n b ≡ answered f
-    → (rest : List Bool) × WrittenAs (bitsFrom l p) (f .grid) rest × (f .position ≡ p + length (gridBits (f .grid)))
+    (l : List ℕ) (p n : ℕ) (b : ℤ) (f : Accepted) → readGrid l p n b ≡ answered f → Rewritten (bitsFrom l p) p f

@@ -123,7 +123,8 @@ lead-is (suc n) b l u = rw (le-ltb b (suc n) l) (omega arith)
 
 -- a record that is sound from the lead gives one
 good-by : (n : ℕ) (s : State) (f : Sent) → InReach n s → Electable n (leadOf n (pos (s .border))) (f .grid) → timeGrid n (f .grid) ≡ answered (f .time) → Good n (s .border) f
-good-by n s f i sr tm =
+good-by n s f i el tm =
+    let sr = el .sound in
     let same : sr .time ≡ f .time = cc (sr .derived, tm) in
     let ends = time-ends n (f .grid) (f .time) tm in
     let last : getD (f .time .tE) (numEnv (f .grid)) 0 ≡ lastBorder (f .time) = ap (λ (k : ℕ). getD (f .time .tE) k 0) (omega (arith, ends .count)) in
@@ -135,7 +136,7 @@ good-by n s f i sr tm =
         from = omega (arith, sr .ends-from, last, ap (λ (x : Times). getD (x .tE) (numEnv (f .grid)) 0) same);
         by = omega (arith, sr .ends-by, last, ap (λ (x : Times). getD (x .tE) (numEnv (f .grid)) 0) same);
       };
-      reads = sr .reads;
+      reads = el .reads;
       last = last;
     }
 

@@ -10,7 +10,7 @@ use Rattle.sbr_grid.specs.declared.Answer.the-variants.{Given}
 use Rattle.sbr_grid.specs.declared.SbrGrid.{SbrGrid}
 use Rattle.sbr_grid.specs.Refusals.{Outcome, answered, refused}
 use Rattle.sbr_grid.specs.Grid.{Grid, numEnv, viewOf, recordOf}
-use Rattle.sbr_grid.proofs.Laws.{getD-first, view-record}
+use Rattle.sbr_grid.proofs.Laws.{getD-first}
 use Rattle.sbr_grid.specs.declared.TimeGrid.{TimeGrid}
 use Rattle.sbr_time_grid.specs.declared.Derived.{Derived}
 use Rattle.sbr_grid.specs.Times.{Times, timeRecord}
@@ -19,7 +19,6 @@ use Rattle.sbr_time_grid.proofs.Answers.{slots-few}
 use Rattle.sbr_time_grid.proofs.Ends.{time-ends, time-passes}
 use Rattle.sbr_writer.specs.declared.Written.the-variants.{To, Refused as NotWritten}
 use Rattle.sbr_writer.specs.Write.{Wrote, writeGrid, writtenOf}
-use Rattle.sbr_writer.proofs.Facts.{both, fields-told}
 use Rattle.sbr_reader.specs.declared.FrameRead.{FrameRead}
 use Rattle.sbr_reader.specs.Read.{Accepted, frameReadOf}
 use Rattle.sbr_grid.proofs.Outcomes.{given-is}
@@ -70,15 +69,13 @@ pub chosen : (n lead : ℕ) (o : Outcome Elected) (r : Election) → ((e : Elect
 chosen n lead c r sound e g =
     let o = given-is c (ap (λ (x : Election). x .answer) (sym e) ∙ g) in
     let w = e ∙ ap electionOf (o .1) in
-    let h = o .0 .grid in
     let s = sound (o .0) (o .1) in
-    let f = fields-told h (both _ _ (s .fits) .0) in
     record {
       elected = o .0;
       is = o .1;
       whole = w;
-      view = ap (λ (x : Election). viewOf (x .grid)) w ∙ view-record h (f .most) (f .rel0) (f .rel1);
-      time = (s .time, s .derived);
+      view = ap (λ (x : Election). viewOf (x .grid)) w ∙ s .kept;
+      time = (s .sound .time, s .sound .derived);
     }
 
 -- the last border of a time grid t, in its record r

@@ -10,8 +10,8 @@ use lib.ListN.{length, getD, drop, length-append, length-reverse}
 use Rattle.sbr_grid.specs.declared.FrameClass.{FrameClass}
 use Rattle.sbr_grid.specs.declared.FrameClass.the-variants.{FixFix, FixVar, VarFix, VarVar}
 use Rattle.sbr_grid.specs.declared.SbrGrid.{SbrGrid}
-use Rattle.sbr_grid.specs.Grid.{first, viewOf, numEnv, Grid}
-use Rattle.sbr_grid.proofs.Laws.{length-first, getD-first, lengths}
+use Rattle.sbr_grid.specs.Grid.{first, viewOf, recordOf, numEnv, Grid}
+use Rattle.sbr_grid.proofs.Laws.{length-first, getD-first, lengths, view-record}
 use Rattle.bits.proofs.Numbers.{length-bitsOf}
 use Rattle.sbr_grid.proofs.Widths.{pointer-width}
 use Rattle.sbr_writer.specs.Syntax.{bodyBits, gridBits}
@@ -98,6 +98,10 @@ fields-fit g f =
       f .small1,
       le-leb _ _ (f .pointed),
     )
+
+-- a writable record is the view of the record that is handed out for it
+pub writable-view : (g : Grid) → writable g ≡ true → viewOf (recordOf g) ≡ g
+writable-view g h = let f = fields-told g (both _ _ h .0) in view-record g (f .most) (f .rel0) (f .rel1)
 
 -- the tests in the record's own numbers
 pub fields-view : (g : SbrGrid) → fieldsFit (viewOf g) ≡ (
