@@ -130,7 +130,7 @@ every-call By sound =
       sendable = λ r previous e a.
           let s = sound r previous e a in
           record { timed = (s .sound .time, s .sound .derived); room-only = room-only (e .grid) (s .fits) };
-      written = λ r s ts u. written r s ts (left r s ts u);
+      transmitted = λ r s ts u. written r s ts (left r s ts u);
       read-back = λ r s ts u bytes q h rs own. read-back-by r (sent ts) (s .border) (after s ts .border) bytes q rs (left r s ts u .chain) h own;
       energies-count = energies-count;
       apart = λ r r′ s s′ ts ts′ u u′ same i d h k ne.

@@ -76,7 +76,7 @@ sumOf (x ∷ xs) = x + sumOf xs
 -- that of the runs by one choosing call
 pub record Term3Of (By : Choosing) : Type 0 where
   pub sendable : (r : Terms) (previous : ℤ) (e : Elected) → By r previous (answered e) → Sendable (r .slots) (e .grid)
-  pub written : (r : Terms) (s : State) (ts : List Turn) → Run By r s ts → Transmitted r s ts
+  pub transmitted : (r : Terms) (s : State) (ts : List Turn) → Run By r s ts → Transmitted r s ts
   pub read-back : (r : Terms) (s : State) (ts : List Turn) → Run By r s ts
       → (bytes : List ℕ) (q : ℕ) → Holds bytes q (stream (sent ts))
       → (rs : List Reading) → Readings (r .slots) bytes (record { border = s .border; position = q }) rs

@@ -1,14 +1,17 @@
--- The sample run is as stated: each turn is computed once.
-use mathlib.Core.Path.{_≡_, refl}
+-- The sample run is as stated: each turn is computed once, and what is read is derived from term 3.
+use mathlib.Core.Path.{_≡_, refl, sym, ap, _∙_, subst}
 use mathlib.Core.Bool.{Bool, true, false}
-use mathlib.Core.List.{List, [], _∷_}
-use Prim.Native.Nat.{ℕ}
+use mathlib.Core.List.{List, [], _∷_, map}
+use Prim.Native.Nat.{ℕ, _<_}
 use native.Mathlib.Omega.{arith}
 use lib.IntN.{ℤ, pos, negsuc}
+use lib.ListN.{length, take, getD, length-map}
+use lib.Seq.{take-length}
 use lib.Ieee as Ieee
 use lib.Ieee.{ofBits}
 use Rattle.bits.specs.Bits.{bitAt, withBit, getBit, putBit, putBits, bitsAt, bitsOf, numFrom}
 use Rattle.bits.specs.Room.{endOf, roomFor}
+use Rattle.sbr_grid.specs.declared.FrameClass.{FrameClass}
 use Rattle.sbr_grid.specs.declared.FrameClass.the-variants.{FixFix, FixVar, VarFix}
 use Rattle.sbr_grid.specs.declared.Refusal.the-variants.{SlotCount, Room}
 use Rattle.sbr_grid.specs.Refusals.{Outcome, answered, refused}
@@ -28,8 +31,11 @@ use Rattle.sbr_build.specs.Build.{fixfixGrid}
 use Rattle.sbr_attack.specs.Attack.{lateAttackVarvar, fixvarSegs, varfixSegs, fixvarGrid, varfixGrid, variableGrid, segmentsBy}
 use Rattle.sbr_choice.specs.Choice.{attackGrid, plainGrid, chosenGrid}
 use Rattle.sbr_encoder.specs.Election.{elect}
-use Rattle.sbr_run.specs.Run.{Turned, State, Elects, turn, sent, HandsIn}
-use Rattle.sbr_sample.specs.Sample.{loudFrom, terms, turnAt, start, afterOne, afterTwo, end, turns, Sample}
+use Rattle.sbr_run.specs.Run.{Turn, Sent, Turned, Terms, State, Elects, turn, after, sent, HandsIn, Run, Frame, frameOf}
+use Rattle.sbr_run.specs.Readings.{Reading, listened, read, Readings}
+use Rattle.sbr_run.specs.Term3.{ReadBack, Apart}
+use Rattle.sbr_run.proofs.Term3.{term3}
+use Rattle.sbr_sample.specs.Sample.{loudFrom, terms, turnAt, start, afterOne, afterTwo, end, turns, frames, readings, otherTurns, tuned, Sample}
 
 -- a turn of the sample with 16 slots hands in what is carried
 hands : (s : ℕ) (c : State) → HandsIn Elects terms c (turnAt 16 s c)
@@ -54,21 +60,98 @@ outcomes : Outcomes
 unfolding columns total ofBits Ieee.add Ieee.mul Ieee.div Ieee.ofInt Ieee.lt Ieee.le Ieee.isNan peakOf isAttack onsetsFrom detectOnsets halvesAlike spreadIsHigh bitAt withBit getBit putBit putBits bitsAt bitsOf numFrom endOf roomFor widthFrom absBordLead absBordTrail nRelLead nRelTrail relBordLead slotSum listFrom tE rises middleBorder lA slotCount countsFit bordersFit noiseFits tQ timeGrid twos bodyBits gridBits every classFits fieldsFit writeGrid among drawn highFits lowFits spansFrom inside largestFrom smallestFrom isSpread someSpread electFreqRes fixfixGrid segmentsBy lateAttackVarvar fixvarSegs varfixSegs fixvarGrid varfixGrid variableGrid attackGrid plainGrid chosenGrid elect turn
 outcomes = record { one = refl; two = refl; three = refl; four = refl; five = refl }
 
-pub sampled : Sample
-unfolding bitAt getBit bitsAt numFrom endOf widthFrom absBordLead absBordTrail nRelLead nRelTrail relBordLead slotSum listFrom tE rises middleBorder lA slotCount countsFit bordersFit noiseFits tQ timeGrid readGrid meets sbrGrid _followedBy_ flags field relBords checkedCount behindCounts fixFix fixVar varFix
-sampled =
+-- ---- what term 3 says of a run whose end is known
+
+module _ (r : Terms) (s e : State) (ts : List Turn) (run : Run Elects r s ts) (ends : after s ts ≡ e) (rs : List Reading)
+    (own : Readings (r .slots) (e .bytes) (record { border = s .border; position = s .position }) rs) where
+  -- the bytes that the run left hold its stream
+  back : ReadBack r (sent ts) (s .border) (e .border) (e .bytes) (s .position) rs
+  back =
+      subst
+      (λ (z : State). Readings (r .slots) (z .bytes) (record { border = s .border; position = s .position }) rs
+      → ReadBack r (sent ts) (s .border) (z .border) (z .bytes) (s .position) rs)
+      ends (term3 .read-back r s ts run (after s ts .bytes) (s .position) (term3 .transmitted r s ts run .holds) rs) own
+
+  module _ (fs : List Frame) (sends : map (frameOf r) (sent ts) ≡ fs) (all : length (read rs) ≡ length fs) where
+    -- as many readings answer as frames were sent
+    same-count : length (read rs) ≡ length (sent ts)
+    same-count = all ∙ ap length (sym sends) ∙ length-map (sent ts) (frameOf r)
+
+    frames-read : map (frameOf r) (read rs) ≡ fs
+    frames-read = back .in-order (omega (arith, same-count)) ∙ ap (take (length (read rs))) sends ∙ rw all (take-length fs)
+
+    place-left : listened (record { border = s .border; position = s .position }) rs ≡ record { border = e .border; position = e .position }
+    place-left =
+        let b : listened (record { border = s .border; position = s .position }) rs .border ≡ e .border = back .border same-count in
+        let p : listened (record { border = s .border; position = s .position }) rs .position ≡ e .position =
+        back .position same-count ∙ sym (term3 .transmitted r s ts run .ends) ∙ ap (λ (z : State). z .position) ends in
+        λ i. record { border = b i; position = p i }
+
+-- ---- the sample
+
+-- the run, by what its turns come to
+runs : Run Elects terms start turns
+runs =
     let o = outcomes in
     record {
-      runs = record {
-        from = omega arith;
-        by = omega arith;
-        turns =
-            rw (o .one) (rw (o .two) (rw (o .three) (rw (o .four) (rw (o .five)
-            (hands 24 start, (tt, (hands 15 afterOne, (hands 10 afterTwo, (tt, tt)))))))));
-      };
-      sends = rw (o .one) (rw (o .two) (rw (o .three) (rw (o .four) (rw (o .five) refl))));
-      ends = rw (o .one) (rw (o .two) (rw (o .three) (rw (o .four) (rw (o .five) refl))));
-      listens = (refl, (tt, (refl, (tt, (refl, (tt, tt))))));
-      reads = refl;
-      hears = refl;
+      from = omega arith;
+      by = omega arith;
+      turns =
+          rw (o .one) (rw (o .two) (rw (o .three) (rw (o .four) (rw (o .five)
+          (hands 24 start, (tt, (hands 15 afterOne, (hands 10 afterTwo, (tt, tt)))))))));
+    }
+
+sends : map (frameOf terms) (sent turns) ≡ frames
+sends = let o = outcomes in rw (o .one) (rw (o .two) (rw (o .three) (rw (o .four) (rw (o .five) refl))))
+
+ends : after start turns ≡ end
+ends = let o = outcomes in rw (o .one) (rw (o .two) (rw (o .three) (rw (o .four) (rw (o .five) refl))))
+
+other-run : Run Elects terms afterOne otherTurns
+other-run =
+    record { from = omega arith; by = omega arith; turns = rw (outcomes .three) (hands 15 afterOne, tt) }
+
+-- what is computed of the readings
+record Heard : Type 0 where
+  all : Readings 16 (end .bytes) tuned readings
+  some : Readings 16 (end .bytes) tuned (take 2 readings)
+  count : length (read readings) ≡ 3
+  fewer : length (read (take 2 readings)) ≡ 1
+
+heard : Heard
+unfolding bitAt getBit bitsAt numFrom endOf widthFrom absBordLead absBordTrail nRelLead nRelTrail relBordLead slotSum listFrom tE rises middleBorder lA slotCount countsFit bordersFit noiseFits tQ timeGrid readGrid meets sbrGrid _followedBy_ flags field relBords checkedCount behindCounts fixFix fixVar varFix
+heard = record { all = (refl, (tt, (refl, (tt, (refl, (tt, tt)))))); some = (refl, (tt, tt)); count = refl; fewer = refl }
+
+-- ---- two runs
+
+-- a frame for places that a list does not have
+noFrame : Sent
+noFrame = record { grid = made FixFix 0 [] 0 0 [] [] 0 false; time = times [] [] (negsuc 0) }
+
+first-sent : frameOf terms (getD (sent turns) 0 noFrame) .class ≡ FixFix
+first-sent = rw (outcomes .one) refl
+
+other-sent : (0 < length (sent otherTurns)) × (frameOf terms (getD (sent otherTurns) 0 noFrame) .class ≡ FixVar)
+other-sent = rw (outcomes .three) (omega arith, refl)
+
+streams-apart : length (sent turns) ≡ 3 → Apart turns otherTurns
+streams-apart many =
+    term3 .apart terms terms start afterOne turns otherTurns runs other-run refl 0 noFrame (omega arith) (other-sent .0)
+    (λ c b m r. let z : _≡_ {A = FrameClass} FixFix FixVar = sym first-sent ∙ c ∙ other-sent .1 in let w : _≡_ {A = ℕ} 0 1 = cc in omega arith)
+
+pub sampled : Sample
+sampled =
+    let h = heard in
+    let many : length (sent turns) ≡ 3 = sym (length-map (sent turns) (frameOf terms)) ∙ ap length sends in
+    record {
+      runs = runs;
+      sends = sends;
+      ends = ends;
+      listens = h .all;
+      counts = h .count;
+      runs-too = other-run;
+      reads = frames-read terms start end turns runs ends readings (h .all) frames sends (h .count);
+      hears = place-left terms start end turns runs ends readings (h .all) frames sends (h .count);
+      unread = back terms start end turns runs ends (take 2 readings) (h .some) .answers (omega (arith, h .fewer, many));
+      apart = streams-apart many;
     }

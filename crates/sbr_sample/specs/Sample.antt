@@ -1,16 +1,19 @@
--- A run of five turns, two of them refused, and its readings, computed: the claim is about something. Proved in proofs/Sampled.antt.
+-- A run of five turns, two of them refused, and its readings: the claim is about something, and its hypotheses are met. Proved in proofs/Sampled.antt.
 use mathlib.Core.Path.{_≡_}
 use mathlib.Core.Bool.{true, false}
 use mathlib.Core.List.{List, [], _∷_, _++_, map}
 use Prim.Native.Nat.{ℕ, zero, suc, _+_, _-_, _*_}
 use lib.IntN.{pos, negsuc}
-use lib.ListN.{replicate}
+use lib.ListN.{length, take, replicate}
 use lib.Ieee.{Float, binary64, ofBits}
 use Rattle.sbr_grid.specs.declared.FrameClass.the-variants.{FixFix, FixVar, VarFix}
+use Rattle.sbr_grid.specs.declared.Refusal.{Refusal}
+use Rattle.sbr_grid.specs.Refusals.{refused}
 use Rattle.sbr_floats.specs.Floats.{zero64}
 use Rattle.sbr_encoder.specs.Election.{elect}
 use Rattle.sbr_run.specs.Run.{Turn, Terms, Elects, State, after, sent, Run, Frame, frameOf}
-use Rattle.sbr_run.specs.Readings.{Reading, listened, read, Readings}
+use Rattle.sbr_run.specs.Readings.{Reading, Receiver, reading, listened, read, inTerms, Readings}
+use Rattle.sbr_run.specs.Term3.{Apart}
 
 -- ---- samples
 
@@ -95,12 +98,29 @@ readingAt n b p = record { bytes = end .bytes; position = p; slots = n; border =
 abbrev pub readings : List Reading
 readings = readingAt 16 16 3 ∷ readingAt 17 16 8 ∷ readingAt 16 16 8 ∷ readingAt 16 16 23 ∷ readingAt 16 18 23 ∷ readingAt 16 16 38 ∷ []
 
+-- ---- a second run
+
+-- one turn, loud from slot 15 on, at another position: its first frame is FixVar, that of the first run FixFix
+abbrev pub otherTurns : List Turn
+otherTurns = turnAt 16 15 afterOne ∷ []
+
 -- ---- the sample
 
+-- where the receiver begins
+abbrev pub tuned : Receiver
+tuned = record { border = 16; position = 3 }
+
 pub record Sample : Type 0 where
+  -- computed: a run, what it sends and leaves; readings in its terms, of which three answer; a second run
   pub runs : Run Elects terms start turns
   pub sends : map (frameOf terms) (sent turns) ≡ frames
   pub ends : after start turns ≡ end
-  pub listens : Readings 16 (end .bytes) (record { border = 16; position = 3 }) readings
+  pub listens : Readings 16 (end .bytes) tuned readings
+  pub counts : length (read readings) ≡ 3
+  pub runs-too : Run Elects terms afterOne otherTurns
+  -- by term 3, whose hypotheses these meet: the readings give the frames sent and leave the transmitter's border and position; after two readings the
+  -- next one is not refused; neither run's stream begins the other's
   pub reads : map (frameOf terms) (read readings) ≡ frames
-  pub hears : listened (record { border = 16; position = 3 }) readings ≡ record { border = end .border; position = end .position }
+  pub hears : listened tuned readings ≡ record { border = end .border; position = end .position }
+  pub unread : (e : Refusal) → reading (inTerms 16 (end .bytes) (listened tuned (take 2 readings))) ≡ refused e → ⊥
+  pub apart : Apart turns otherTurns
