@@ -13,11 +13,11 @@ use Rattle.sbr_grid.specs.Refusals.{Outcome, answered, refused}
 use Rattle.sbr_grid.specs.Grid.{viewOf, recordOf, Grid}
 use Rattle.sbr_grid.specs.Times.{slotCount}
 use Rattle.sbr_time_grid.specs.TimeGrid.{countsFit}
-use Rattle.sbr_qmf.specs.Qmf.{columns}
+use Rattle.sbr_qmf.specs.Qmf.{columns, samplesNeeded}
 use Rattle.sbr_bands.specs.Tables.{tablesFit}
 use Rattle.sbr_envelopes.specs.declared.Estimated.{Estimated}
 use Rattle.sbr_envelopes.specs.declared.Estimated.the-variants.{Count, Refused as NotEstimated}
-use Rattle.sbr_envelopes.specs.Envelopes.{samplesNeeded, rowsOf, energies, estimatedOf, numbersAfter}
+use Rattle.sbr_envelopes.specs.Envelopes.{rowsOf, energies, estimatedOf, numbersAfter}
 use Rattle.sbr_form.proofs.Same.{same, counted, time-else}
 use Rattle.sbr_give.proofs.Answers.{Out}
 use Rattle.c_energies.specs.Energies.{energyOut}

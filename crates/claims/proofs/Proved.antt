@@ -6,12 +6,16 @@ use Rattle.sbr_reader.proofs.Frames.{frame-writes}
 use Rattle.sbr_choice.proofs.Best.{search-is-least, none-exactly}
 use Rattle.sbr_choice.proofs.Cases.{marked-cases}
 use Rattle.sbr_choice.proofs.Every.{chosen-is-sound}
+use Rattle.sbr_envelopes.proofs.Unread.{energies-unread}
+use Rattle.sbr_encoder.proofs.Unread.{elections-unread}
 use Rattle.sbr_encoder.proofs.EveryElection.{every-election}
 use Rattle.sbr_run.proofs.Term3.{every-call, term3}
 use Rattle.sbr_sample.proofs.Sampled.{sampled}
 
 pub claims : Claims
 claims = record {
+  elections-unread = elections-unread;
+  energies-unread = energies-unread;
   pointer-width = pointer-width;
   reads-back = reads-back;
   writes-back = writes-back;

@@ -5,11 +5,17 @@ use Rattle.sbr_parse.specs.Inverse.{ReadsBack, WritesBack}
 use Rattle.sbr_reader.specs.Inverse.{FrameWrites}
 use Rattle.sbr_choice.specs.Plans.{SearchIsLeast, NoneExactly}
 use Rattle.sbr_choice.specs.Chosen.{ChosenIsSound, MarkedCases}
+use Rattle.sbr_envelopes.specs.Unread.{EnergiesUnread}
+use Rattle.sbr_encoder.specs.Unread.{ElectionsUnread}
 use Rattle.sbr_encoder.specs.Electable.{EveryElection}
 use Rattle.sbr_run.specs.Term3.{Term3, EveryCall}
 use Rattle.sbr_sample.specs.Sample.{Sample}
 
 pub record Claims : Type 1 where
+  -- ---- term 1: every call answers or refuses as stated
+  -- samples in columns 0 and 1, in bands outside the high table and past the columns that are needed affect no answer
+  pub elections-unread : ElectionsUnread
+  pub energies-unread : EnergiesUnread
   -- ---- term 2: grids, bits and energies are those of the standard and of the Rust
   -- the width of bs_pointer is the least that tells the envelope count + 1 values apart
   pub pointer-width : PointerWidth

@@ -3,6 +3,7 @@ use mathlib.Core.Path.{_≡_, sym, _∙_}
 use mathlib.Core.Bool.{Bool, true, false, or-true, or-false, false≢true, and-eq-true-iff}
 use mathlib.Core.List.{List}
 use Prim.Native.Nat.{ℕ, zero, suc, _+_, _-_, _≤_, _<_}
+use native.Mathlib.Decide.{decLt}
 use native.Mathlib.Omega.{arith}
 use native.Mathlib.Decide.{decLe, ℕ-discrete}
 use native.Mathlib.Numerals.{add-one}
@@ -109,6 +110,19 @@ table t n h e l =
       rising = λ i j p k. omega (arith, gap i j (omega arith) (omega arith));
       by64 = λ j k. omega (arith, gap j (length t - 1) (omega arith) (omega arith));
     }
+
+-- an entry lies between the first and the last
+pub table-from : (t : List ℕ) (n j : ℕ) → Table t n → j < length t → entry t 0 ≤ entry t j
+table-from t n j b h = elim (decLt 0 j) [
+  | yes l ↦ omega (arith, b .rising 0 j l h)
+  | no l ↦ let e : j ≡ 0 = omega arith in rw e (omega arith)
+]
+
+pub table-to : (t : List ℕ) (n j : ℕ) → Table t n → j < length t → entry t j ≤ top t
+table-to t n j b h = elim (decLt j (length t - 1)) [
+  | yes l ↦ omega (arith, b .rising j (length t - 1) l (omega arith))
+  | no l ↦ let e : j ≡ length t - 1 = omega arith in rw e (omega arith)
+]
 
 -- the high table
 pub high-table : (high : List ℕ) → highFits high ≡ true → Table high 2

@@ -1,21 +1,19 @@
 -- What holds of every elected record.
 use mathlib.Core.Path.{_≡_, refl, ap, _∙_}
-use mathlib.Core.Bool.{Bool, true, false, cond}
+use mathlib.Core.Bool.{Bool}
 use mathlib.Core.List.{List, map}
 use Prim.Native.Nat.{ℕ, _-_}
 use native.Mathlib.Omega.{arith}
 use lib.Dec.{leb}
-use lib.IntN.{ℤ}
 use lib.ListN.{length, length-map}
-use lib.Ieee.{Float}
 use Rattle.sbr_grid.specs.declared.FrameClass.{FrameClass}
 use Rattle.sbr_grid.specs.declared.FrameClass.the-variants.{FixFix, FixVar, VarFix, VarVar}
-use Rattle.sbr_grid.specs.declared.Refusal.the-variants.{SlotCount, Samples, Tables}
-use Rattle.sbr_grid.specs.Refusals.{Outcome, answered, refused}
+use Rattle.sbr_grid.specs.Refusals.{Outcome, answered}
 use Rattle.sbr_grid.specs.Grid.{byClass, Grid}
 use Rattle.sbr_grid.specs.Times.{slotCount}
+use Rattle.sbr_grid.proofs.Refusals.{unless-answered}
 use Rattle.sbr_time_grid.proofs.Ends.{time-ends}
-use Rattle.sbr_qmf.specs.Qmf.{SampleAt, columns}
+use Rattle.sbr_qmf.specs.Qmf.{SampleAt, columns, samplesNeeded}
 use Rattle.sbr_energy.specs.Energy.{slotEnergy}
 use Rattle.sbr_writer.proofs.Facts.{writable-view}
 use Rattle.sbr_parse.proofs.Inverse.{reads-back}
@@ -25,10 +23,9 @@ use Rattle.sbr_choice.specs.Chosen.{Sound}
 use Rattle.sbr_choice.proofs.Every.{chosen-is-sound}
 use Rattle.sbr_bands.specs.Tables.{spans, tablesFit, entry, top}
 use Rattle.sbr_onsets.specs.Onsets.{halvesAlike, onsetsOf, leadOf}
-use Rattle.sbr_envelopes.specs.Envelopes.{samplesNeeded}
 use Rattle.sbr_means.proofs.Spans.{spans-length}
 use Rattle.sbr_resolution.specs.Resolution.{electFreqRes}
-use Rattle.sbr_encoder.specs.Election.{withFreqRes, Elected, electedFor, electedOf, elect}
+use Rattle.sbr_encoder.specs.Election.{withFreqRes, electedFor, electedOf, elect}
 use Rattle.sbr_encoder.specs.Electable.{Electable, EveryElection}
 use Rattle.sbr_onsets.proofs.OnsetLead.{frame-case}
 use Rattle.sbr_encoder.proofs.Resolution.{time-res, Kept, kept-res}
@@ -69,19 +66,6 @@ resolved-sent VarVar n lead fs g q e s k = sent n lead (withFreqRes fs g) (sound
 
 -- ---- from the answer to the record
 
--- what an election that answers has tested, and its answer
-record Answered (n : ℕ) (high low : List ℕ) (x : List Float) (previous : ℤ) (variable : Bool) (e : Elected) : Type 0 where
-  slots : slotCount n ≡ true
-  value : e ≡ electedOf (columns x) high low n previous variable
-
-answered-by : (n : ℕ) (high low : List ℕ) (x : List Float) (previous : ℤ) (variable : Bool) (e v : Elected) (a b c : Bool) → slotCount n ≡ a → v ≡ electedOf (columns x) high low n previous variable
-    → cond a (cond b (cond c (answered v) (refused Samples)) (refused Tables)) (refused SlotCount) ≡ answered e
-    → Answered n high low x previous variable e
-answered-by n high low x previous variable e v true true true p q r = record { slots = p; value = cc }
-answered-by n high low x previous variable e v true true false p q r = let z : _≡_ {A = ℕ} 0 1 = cc in absurd (omega arith)
-answered-by n high low x previous variable e v true false c p q r = let z : _≡_ {A = ℕ} 0 1 = cc in absurd (omega arith)
-answered-by n high low x previous variable e v false b c p q r = let z : _≡_ {A = ℕ} 0 1 = cc in absurd (omega arith)
-
 -- the grid for onsets, with a time grid, in the form that the election gives it
 for-onsets : (x : SampleAt) (high low : List ℕ) (n lead : ℕ) (variable even : Bool) (os : List ℕ) → Case n lead os
     → Electable n lead (electedFor x high low n lead variable even os .grid)
@@ -97,6 +81,9 @@ for-onsets x high low n lead variable even os c =
 pub every-election : EveryElection
 unfolding elect
 every-election n high low x previous variable e a =
-    let r = answered-by n high low x previous variable e (electedOf (columns x) high low n previous variable) (slotCount n) (tablesFit high low) (leb (samplesNeeded n) (length x)) refl refl a in
+    let s = unless-answered (slotCount n) _ _ a in
+    let f = unless-answered (tablesFit high low) _ _ (s .1) in
+    let l = unless-answered (leb (samplesNeeded n) (length x)) _ _ (f .1) in
+    let v : e ≡ electedOf (columns x) high low n previous variable = cc (l .1) in
     let en = slotEnergy (columns x) (entry high 0) (top high) in
-    rw (r .value) (for-onsets (columns x) high low n (leadOf n previous) variable (halvesAlike en n) (onsetsOf en n) (frame-case n previous en (r .slots)))
+    rw v (for-onsets (columns x) high low n (leadOf n previous) variable (halvesAlike en n) (onsetsOf en n) (frame-case n previous en (s .0)))

@@ -4,3 +4,4 @@ pub mod Kept
 pub mod EveryElection
 pub mod Ways
 pub mod Choices
+pub mod Unread

@@ -10,9 +10,8 @@ use lib.Ieee.{Float}
 use Rattle.sbr_grid.specs.declared.Refusal.the-variants.{SlotCount, Samples, Tables}
 use Rattle.sbr_grid.specs.Refusals.{answered, refused}
 use Rattle.sbr_grid.specs.Times.{slotCount}
-use Rattle.sbr_qmf.specs.Qmf.{columns}
+use Rattle.sbr_qmf.specs.Qmf.{columns, samplesNeeded}
 use Rattle.sbr_bands.specs.Tables.{tablesFit}
-use Rattle.sbr_envelopes.specs.Envelopes.{samplesNeeded}
 use Rattle.sbr_encoder.specs.declared.Election.{Election}
 use Rattle.sbr_encoder.specs.Election.{electedOf, elect, electionOf}
 

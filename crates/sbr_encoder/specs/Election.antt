@@ -11,12 +11,11 @@ use Rattle.sbr_grid.specs.Refusals.{Outcome, answered, answerOf, valueOr, unles
 use Rattle.sbr_grid.specs.Grid.{byClass, Grid, made, recordOf, empty}
 use Rattle.sbr_grid.specs.Times.{Times, slotCount}
 use Rattle.sbr_time_grid.specs.TimeGrid.{timeGrid}
-use Rattle.sbr_qmf.specs.Qmf.{SampleAt, columns}
+use Rattle.sbr_qmf.specs.Qmf.{SampleAt, columns, samplesNeeded}
 use Rattle.sbr_energy.specs.Energy.{slotEnergy}
 use Rattle.sbr_choice.specs.Choice.{chosenGrid, fallbackGrid}
 use Rattle.sbr_bands.specs.Tables.{entry, top, tablesFit, spans}
 use Rattle.sbr_onsets.specs.Onsets.{halvesAlike, onsetsOf, leadOf}
-use Rattle.sbr_envelopes.specs.Envelopes.{samplesNeeded}
 use Rattle.sbr_resolution.specs.Resolution.{electFreqRes}
 use Rattle.sbr_encoder.specs.declared.Election.{Election}
 

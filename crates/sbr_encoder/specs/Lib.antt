@@ -1,2 +1,3 @@
 pub mod Election
 pub mod Electable
+pub mod Unread

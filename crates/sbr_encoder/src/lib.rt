@@ -134,7 +134,7 @@ pub fn elect_grid(
     if !sbr_bands::tables_fit(high, low) {
         return refusal(Refusal::Tables);
     }
-    if x.len() < sbr_envelopes::samples_needed(num_time_slots) {
+    if x.len() < sbr_qmf::samples_needed(num_time_slots) {
         return refusal(Refusal::Samples);
     }
     elected(

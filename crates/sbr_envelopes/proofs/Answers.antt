@@ -16,9 +16,9 @@ use Rattle.sbr_grid.specs.Grid.{first, Grid, viewOf}
 use Rattle.sbr_time_grid.specs.declared.Derived.{Derived}
 use Rattle.sbr_grid.specs.Times.{Times, slotCount}
 use Rattle.sbr_time_grid.specs.TimeGrid.{timeGrid, derivedOf}
-use Rattle.sbr_qmf.specs.Qmf.{SampleAt, columns}
+use Rattle.sbr_qmf.specs.Qmf.{SampleAt, columns, samplesNeeded}
 use Rattle.sbr_bands.specs.Tables.{tablesFit, spans}
-use Rattle.sbr_envelopes.specs.Envelopes.{samplesNeeded, rows, rowsLength, fitted, rowsOf, energies, estimatedOf, numbersAfter}
+use Rattle.sbr_envelopes.specs.Envelopes.{rows, rowsLength, fitted, rowsOf, energies, estimatedOf, numbersAfter}
 use Rattle.sbr_envelopes.specs.declared.Estimated.the-variants.{Count, Refused}
 use Rattle.sbr_means.proofs.Places.{front-long}
 use Rattle.sbr_means.proofs.Spans.{spans-first}

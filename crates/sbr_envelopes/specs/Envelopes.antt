@@ -1,7 +1,7 @@
 -- Energies of envelopes: `estimate_envelopes` of src/sbr_encoder.rs.
 use mathlib.Core.Bool.{Bool, cond}
 use mathlib.Core.List.{List, [], _∷_, _++_, map}
-use Prim.Native.Nat.{ℕ, _+_, _*_}
+use Prim.Native.Nat.{ℕ, _+_}
 use lib.Dec.{leb}
 use lib.ListN.{length, drop}
 use lib.Ieee.{Float}
@@ -10,15 +10,11 @@ use Rattle.sbr_grid.specs.Refusals.{Outcome, answered, refused, valueOr, unless
 use Rattle.sbr_grid.specs.Grid.{Grid}
 use Rattle.sbr_grid.specs.Times.{Times, slotCount}
 use Rattle.sbr_time_grid.specs.TimeGrid.{timeGrid}
-use Rattle.sbr_qmf.specs.Qmf.{SampleAt, columns}
+use Rattle.sbr_qmf.specs.Qmf.{SampleAt, columns, samplesNeeded}
 use Rattle.sbr_bands.specs.Tables.{tablesFit, Span, spans}
 use Rattle.sbr_means.specs.Means.{meanIn}
 use Rattle.sbr_envelopes.specs.declared.Estimated.{Estimated}
 use Rattle.sbr_envelopes.specs.declared.Estimated.the-variants.{Count, Refused}
-
--- the numbers that N + 8 slots need: columns of 64 pairs, two to a slot, from column 2 on (document 01, refusal 2)
-abbrev pub samplesNeeded : ℕ → ℕ
-samplesNeeded n = (2 * (n + 8) + 2) * 128
 
 -- a mean for each band of a table, lowest first
 abbrev pub row : SampleAt → List ℕ → Span → List Float
@@ -30,10 +26,18 @@ rows x high low [] envs = []
 rows x high low (f ∷ fs) [] = []
 rows x high low (f ∷ fs) (env ∷ envs) = row x (cond f high low) env ++ rows x high low fs envs
 
--- how many numbers that is, for tables of so many bands
+-- row lengths: for each envelope the bands of the table of its resolution
+abbrev pub rowLengths : ℕ → ℕ → List Bool → List ℕ
+rowLengths highBands lowBands fs = map (λ f. cond f highBands lowBands) fs
+
+-- the sum of a list
+abbrev pub sumOf : List ℕ → ℕ
+sumOf [] = 0
+sumOf (x ∷ xs) = x + sumOf xs
+
+-- how many numbers the rows hold
 unfoldable pub rowsLength : List Bool → ℕ → ℕ → ℕ
-rowsLength [] highBands lowBands = 0
-rowsLength (f ∷ fs) highBands lowBands = cond f highBands lowBands + rowsLength fs highBands lowBands
+rowsLength fs highBands lowBands = sumOf (rowLengths highBands lowBands fs)
 
 -- the rows, where there is room for as many numbers
 abbrev pub fitted : ℕ → List Float → Outcome (List Float)

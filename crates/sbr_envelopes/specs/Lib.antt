@@ -1,1 +1,2 @@
 pub mod Envelopes
+pub mod Unread

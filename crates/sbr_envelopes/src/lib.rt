@@ -11,23 +11,15 @@ ghost use Rattle.sbr_grid.specs.Refusals.{answered};
 ghost use Rattle.sbr_grid.specs.Grid.{first, viewOf};
 ghost use Rattle.sbr_grid.specs.Times.{slotCount};
 ghost use Rattle.sbr_time_grid.specs.TimeGrid.{timeGrid};
-ghost use Rattle.sbr_qmf.specs.Qmf.{columns};
+ghost use Rattle.sbr_qmf.specs.Qmf.{columns, samplesNeeded};
 ghost use Rattle.sbr_bands.specs.Tables.{tablesFit, spans};
 ghost use Rattle.sbr_resolution.specs.Resolution.{Ready};
-ghost use Rattle.sbr_envelopes.specs.Envelopes.{samplesNeeded, rows, rowsLength, fitted, rowsOf, energies, estimatedOf, numbersAfter};
+ghost use Rattle.sbr_envelopes.specs.Envelopes.{rows, rowsLength, fitted, rowsOf, energies, estimatedOf, numbersAfter};
 
 // How many numbers the rows hold.
 pub enum Estimated {
     Count(usize),
     Refused(Refusal),
-}
-
-// The numbers that num_time_slots + 8 slots need.
-pub fn samples_needed(num_time_slots: usize) -> usize
-    requires { ⌜ slotCount «num_time_slots» ≡ true ⌝ }
-    ensures { λ r. ⌜ r ≡ samplesNeeded «num_time_slots» ⌝ }
-{
-    (2 * (num_time_slots + 8) + 2) * 128
 }
 
 // How many numbers the rows of num_env envelopes hold.
@@ -138,7 +130,7 @@ pub fn estimate_envelopes(
     if !sbr_bands::tables_fit(high, low) {
         return Estimated::Refused(Refusal::Tables);
     }
-    if x.len() < samples_needed(num_time_slots) {
+    if x.len() < sbr_qmf::samples_needed(num_time_slots) {
         return Estimated::Refused(Refusal::Samples);
     }
     timed_rows(x, high, low, grid, num_time_slots, out)

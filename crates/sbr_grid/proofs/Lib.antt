@@ -1,3 +1,5 @@
 pub mod Laws
 pub mod Widths
 pub mod Outcomes
+pub mod Refusals
+pub mod Slots

@@ -82,3 +82,11 @@ pub spans-first : (xs : List ℕ) (n : ℕ) → spans (first 0 (n + 1) xs) ≡ s
 spans-first xs n =
     let e : length (first 0 (n + 1) xs) - 1 ≡ n = omega (arith, length-first 0 (n + 1) xs) in
     rw e (spans-same (first 0 (n + 1) xs) xs 0 n (λ j h l. getD-first 0 (n + 1) j xs (omega arith)))
+
+-- numbers that are the same for each span
+pub mapped-same : {A : Type 0} (f g : Span → A) (xs : List ℕ) (i k : ℕ)
+    → ((j : ℕ) → i ≤ j → j < i + k → f (record { from = entry xs j; to = entry xs (j + 1) }) ≡ g (record { from = entry xs j; to = entry xs (j + 1) }))
+    → map f (spansFrom xs i k) ≡ map g (spansFrom xs i k)
+unfolding spansFrom
+mapped-same f g xs i zero e = refl
+mapped-same f g xs i (suc k) e = rw (e i (omega arith) (omega arith), mapped-same f g xs (suc i) k (λ j h l. e j (omega arith) (omega arith)))

@@ -25,8 +25,8 @@ fn pair_sums(x: &[f64], k: usize, w: usize, t0: usize, t1: usize) -> Pair
     for t in t0..t1 {
         let c = 2 * t + 2;
         let sums = sbr_energy::band_sums(x, w, k, c, c + 1, k + w, c, c + 1);
-        a = a + sums.a + sums.b;
-        b = b + sums.c + sums.d;
+        a = a + sums.c + sums.d;
+        b = b + sums.e + sums.f;
     }
     Pair { a: a, b: b }
 }
@@ -59,13 +59,13 @@ fn band_sum(x: &[f64], k: usize, w: usize, t0: usize, t1: usize) -> f64
     while t + 1 < t1 {
         let c = 2 * t + 2;
         let sums = sbr_energy::band_sums(x, w, k, c, c + 1, k, c + 2, c + 3);
-        sum = sum + sums.a + sums.b + sums.c + sums.d;
+        sum = sum + sums.c + sums.d + sums.e + sums.f;
         t += 2;
     }
     if t < t1 {
         let c = 2 * t + 2;
         let sums = sbr_energy::band_sums(x, w, k, c, c + 1, k, c, c + 1);
-        sum = sum + sums.a + sums.b;
+        sum = sum + sums.c + sums.d;
     }
     sum
 }

@@ -1,6 +1,6 @@
 -- Every frame that reading accepts can be written again.
 use mathlib.Core.Path.{_≡_, refl, ap}
-use mathlib.Core.Bool.{Bool, true, false, cond, _&&_}
+use mathlib.Core.Bool.{Bool, _&&_}
 use mathlib.Core.List.{List}
 use Prim.Native.Nat.{ℕ, zero, suc, _+_, _-_, _^_, _≤_, _<_}
 use native.Mathlib.Omega.{arith}
@@ -12,10 +12,10 @@ use lib.ListN.{length, length-append, getD}
 use Rattle.bits.specs.Room.{bitsFrom}
 use Rattle.sbr_grid.specs.declared.FrameClass.{FrameClass}
 use Rattle.sbr_grid.specs.declared.FrameClass.the-variants.{FixFix, FixVar, VarFix, VarVar}
-use Rattle.sbr_grid.specs.declared.Refusal.{Refusal}
 use Rattle.sbr_grid.specs.Refusals.{Outcome, answered, refused, valueOr}
 use Rattle.sbr_grid.specs.Grid.{widthFrom, ptrBits, Grid, numEnv}
 use Rattle.sbr_grid.specs.Times.{Times, slotCount}
+use Rattle.sbr_grid.proofs.Refusals.{unless-answered}
 use Rattle.sbr_time_grid.specs.TimeGrid.{byPointer, tE, rises, middleBorder, countsFit, bordersFit, noiseFits, accepts, timeGrid}
 use Rattle.sbr_writer.specs.Syntax.{gridBits}
 use Rattle.sbr_parse.specs.Syntax.{sbrGrid}
@@ -23,11 +23,6 @@ use Rattle.sbr_reader.specs.Read.{Accepted, isBorder, meets, timed, pars
 use Rattle.sbr_reader.specs.Inverse.{Rewritten, FrameWrites}
 use Rattle.sbr_writer.proofs.Facts.{both, writable-view}
 use Rattle.sbr_parse.proofs.Inverse.{Sent, sent, writes-back}
-
--- an answer behind a test is the one where the test holds
-tested : {A : Type 0} (t : Bool) (x : Outcome A) (e : Refusal) {a : A} → cond t x (refused e) ≡ answered a → (t ≡ true) × (x ≡ answered a)
-tested true x e h = (refl, h)
-tested false x e h = let z : _≡_ {A = ℕ} 0 1 = cc in absurd (omega arith)
 
 -- a middle border inside the frame is that of a pointer of at most the envelope count
 pointer-from : (p l : ℕ) → 1 < l → 1 ≤ byPointer p (l - 1) (l - 1) (l + 1 - p) → p ≤ l
@@ -53,7 +48,7 @@ pub time-pointer : (n : ℕ) (g : Grid) (t : Times) → timeGrid n g ≡ answere
     → g .pointer ≤ numEnv g
 unfolding timeGrid noiseFits
 time-pointer n g t h l f =
-    let a = tested (accepts n g) _ _ (tested (slotCount n) _ _ h .1) in
+    let a = unless-answered (accepts n g) _ _ (unless-answered (slotCount n) _ _ h .1) in
     let b = both (countsFit g && bordersFit g && rises (tE n g) (numEnv g)) (noiseFits g) (a .0) in
     let m = middleBorder g in
     let c = both (eqb (g .numNoise) 2 && leb 1 m) (ltb m (numEnv g)) (rw (lt-leb (numEnv g) 1 l) at (b .1)) in
@@ -86,7 +81,7 @@ met : (n : ℕ) (b : ℤ) (g : Grid) (q : ℕ) (t : Times) (f : Accepted) → me
     → (g ≡ f .grid) × (q ≡ f .position)
 unfolding meets
 met n b g q t f h =
-    let e = tested (isBorder b (getD (t .tE) 0 0 + n)) _ _ h .1 in
+    let e = unless-answered (isBorder b (getD (t .tE) 0 0 + n)) _ _ h .1 in
     (ap (valueOr (λ x. x .grid) g) e, ap (valueOr (λ x. x .position) q) e)
 
 module _ (n : ℕ) (b : ℤ) (p : ℕ) (bs : List Bool) (f : Accepted) where
@@ -116,4 +111,4 @@ pub frame-writes : FrameWrites
 unfolding readGrid
 frame-writes l p n b f h =
     let o = sbrGrid (bitsFrom l p) in
-    read n b p (bitsFrom l p) f o refl (tested (slotCount n) _ _ h .1)
+    read n b p (bitsFrom l p) f o refl (unless-answered (slotCount n) _ _ h .1)

@@ -12,7 +12,7 @@ use Rattle.sbr_bands.specs.Tables.{entry}
 use Rattle.sbr_resolution.specs.Resolution.{Ready}
 
 -- borders that do not fall are at most the last
-borders-le : (t : List ℕ) (n : ℕ) → ((l : ℕ) → l < n → entry t l ≤ entry t (l + 1)) → (l : ℕ) → l ≤ n → entry t l ≤ entry t n
+pub borders-le : (t : List ℕ) (n : ℕ) → ((l : ℕ) → l < n → entry t l ≤ entry t (l + 1)) → (l : ℕ) → l ≤ n → entry t l ≤ entry t n
 borders-le t zero h l p = let e : l ≡ 0 = omega arith in rw e (omega arith)
 borders-le t (suc n) h l p = elim (decLe l n) [
   | yes q ↦ omega (arith, borders-le t n (λ m r. h m (omega arith)) l q, rw (add-one n) at (h n (omega arith)))

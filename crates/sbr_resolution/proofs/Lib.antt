@@ -2,3 +2,4 @@ pub mod Borders
 pub mod Spread
 pub mod Inside
 pub mod Times
+pub mod Alike

@@ -15,7 +15,9 @@ use Rattle.sbr_time_grid.specs.TimeGrid.{tE, timeGrid, derivedOf}
 use Rattle.sbr_time_grid.proofs.Borders.{at-border}
 use Rattle.sbr_time_grid.proofs.Answers.{slots-few}
 use Rattle.sbr_time_grid.proofs.Ends.{time-passes, time-ends}
+use Rattle.sbr_bands.specs.Tables.{entry}
 use Rattle.sbr_bands.proofs.TableLaws.{rises-step}
+use Rattle.sbr_resolution.proofs.Borders.{borders-le}
 
 -- k envelopes between the borders ts of a time grid t
 pub record Timed (n k : ℕ) (t : Times) (ts : List ℕ) : Type 0 where
@@ -56,3 +58,9 @@ derived n grid t d e f =
 pub derived-count : (n : ℕ) (grid : SbrGrid) (t : Times) (d : Derived) → timeGrid n (viewOf grid) ≡ answered t → d ≡ derivedOf (timeGrid n (viewOf grid))
     → d .time .«num_env» ≡ grid .«num_env»
 derived-count n grid t d e f = omega (arith, timed n (viewOf grid) t e .count, derived n grid t d e f .count, lengths grid)
+
+-- each border of an answered time grid lies within the slots that energies are taken for
+pub border-by : (n : ℕ) (g : Grid) (t : Times) → timeGrid n g ≡ answered t → (j : ℕ) → j ≤ numEnv g → entry (t .tE) j ≤ n + 8
+border-by n g t e j h =
+    let s = timed n g t e in
+    omega (arith, borders-le (first 0 6 (t .tE)) (numEnv g) (s .rising) j h, s .end, getD-first 0 6 j (t .tE) (omega (arith, s .few)))

@@ -1,7 +1,7 @@
 -- One frame: what a turn that answers says, and that a receiver which stands at its bits reads it.
 use mathlib.Core.Path.{_≡_, refl, sym, ap, _∙_, subst}
-use mathlib.Core.Bool.{Bool, true, false, cond}
-use mathlib.Core.List.{List, _++_}
+use mathlib.Core.Bool.{Bool, true}
+use mathlib.Core.List.{List, _++_, []}
 use Prim.Native.Nat.{ℕ, zero, suc, _+_, _-_, _≤_}
 use native.Mathlib.Omega.{arith}
 use borrow.Author.Tests.{le-ltb}
@@ -11,8 +11,8 @@ use lib.ListN.{length, getD, length-append}
 use Rattle.bits.specs.Bits.{putBits}
 use Rattle.bits.specs.Room.{roomFor, bitsFrom}
 use Rattle.bits.proofs.Room.{room}
-use Rattle.sbr_grid.specs.declared.Refusal.the-variants.{Room, Record}
-use Rattle.sbr_grid.specs.Refusals.{Outcome, answered, refused}
+use Rattle.sbr_grid.specs.Refusals.{Outcome, answered, refused, valueOr}
+use Rattle.sbr_grid.proofs.Refusals.{unless-answered}
 use Rattle.sbr_grid.specs.Grid.{Grid, numEnv}
 use Rattle.sbr_choice.proofs.Every.{is-true}
 use Rattle.sbr_grid.specs.Times.{Times, slotCount}
@@ -70,18 +70,17 @@ pub record Put (l : List ℕ) (p : ℕ) (g : Grid) (w : Wrote) : Type 0 where
   pub bytes : w .bytes ≡ putBits l p (gridBits g)
   pub position : w .position ≡ p + length (gridBits g)
 
-put-by : (bytes : List ℕ) (p : ℕ) (g : Grid) (w v : Wrote) (a b : Bool) → writable g ≡ a → roomFor (length bytes) p (length (gridBits g)) ≡ b
-    → v ≡ record { bytes = putBits bytes p (gridBits g); position = p + length (gridBits g) }
-    → cond a (cond b (answered v) (refused Room)) (refused Record) ≡ answered w → Put bytes p g w
-put-by bytes p g w v true true x y z e =
-    let s : v ≡ w = cc in
-    record { fits = x; room = y; bytes = ap (λ (u : Wrote). u .bytes) (sym s ∙ z); position = ap (λ (u : Wrote). u .position) (sym s ∙ z) }
-put-by bytes p g w v true false x y z e = let k : _≡_ {A = ℕ} 0 1 = cc in absurd (omega arith)
-put-by bytes p g w v false b x y z e = let k : _≡_ {A = ℕ} 0 1 = cc in absurd (omega arith)
-
 pub puts : (bytes : List ℕ) (p : ℕ) (g : Grid) (w : Wrote) → writeGrid bytes p g ≡ answered w → Put bytes p g w
 unfolding writeGrid
-puts bytes p g w e = put-by bytes p g w _ (writable g) (roomFor (length bytes) p (length (gridBits g))) refl refl refl e
+puts bytes p g w e =
+    let f = unless-answered (writable g) _ _ e in
+    let r = unless-answered (roomFor (length bytes) p (length (gridBits g))) _ _ (f .1) in
+    record {
+      fits = f .0;
+      room = r .0;
+      bytes = ap (valueOr (λ (u : Wrote). u .bytes) []) (sym (r .1));
+      position = ap (valueOr (λ (u : Wrote). u .position) 0) (sym (r .1));
+    }
 
 -- ---- a frame that a receiver can read
 

@@ -5,27 +5,28 @@ use mathlib.Core.List.{List, [], _∷_, _++_, append-assoc, append-nil}
 use Prim.Native.Nat.{ℕ, zero, suc, _+_, _-_, _<_}
 use native.Mathlib.Omega.{arith}
 use lib.Dec.{leb}
-use lib.ListN.{length, getD, length-append, length-map}
+use lib.ListN.{length, getD}
 use lib.Ieee.{Float}
 use Rattle.bits.specs.Room.{roomFor}
 use Rattle.sbr_grid.specs.declared.Refusal.{Refusal}
-use Rattle.sbr_grid.specs.declared.Refusal.the-variants.{SlotCount, Samples, Tables, Room, Record}
+use Rattle.sbr_grid.specs.declared.Refusal.the-variants.{Room, Record}
 use Rattle.sbr_grid.specs.Refusals.{Outcome, answered, refused}
 use Rattle.sbr_grid.specs.Grid.{Grid}
+use Rattle.sbr_grid.proofs.Refusals.{unless-answered}
 use Rattle.sbr_grid.specs.Times.{Times, slotCount}
 use Rattle.sbr_time_grid.specs.TimeGrid.{timeGrid}
 use Rattle.sbr_time_grid.proofs.Ends.{time-ends}
-use Rattle.sbr_qmf.specs.Qmf.{SampleAt, columns}
+use Rattle.sbr_qmf.specs.Qmf.{SampleAt, columns, samplesNeeded}
 use Rattle.sbr_writer.specs.Syntax.{gridBits}
 use Rattle.sbr_writer.specs.Write.{Wrote, writable, writeGrid}
 use Rattle.sbr_parse.specs.Syntax.{sbrGrid}
-use Rattle.sbr_bands.specs.Tables.{tablesFit, Span, spans}
-use Rattle.sbr_envelopes.specs.Envelopes.{samplesNeeded, row, rows, rowsOf, energies}
-use Rattle.sbr_means.specs.Means.{meanIn}
+use Rattle.sbr_bands.specs.Tables.{tablesFit, spans}
+use Rattle.sbr_envelopes.specs.Envelopes.{rows, rowsOf, energies, sumOf, rowLengths, rowsLength}
+use Rattle.sbr_envelopes.proofs.Rows.{rows-length}
 use Rattle.sbr_means.proofs.Spans.{spans-length}
 use Rattle.sbr_encoder.proofs.EveryElection.{every-election}
-use Rattle.sbr_run.specs.Run.{Turn, Sent, Terms, Elects, State, lastBorder, after, sent, Run, rowLengths, Frame, frameOf, stream}
-use Rattle.sbr_run.specs.Term3.{Differ, sumOf, Term3, SoundChoice, EveryCall}
+use Rattle.sbr_run.specs.Run.{Turn, Sent, Terms, Elects, State, lastBorder, after, sent, Run, Frame, frameOf, stream}
+use Rattle.sbr_run.specs.Term3.{Differ, Term3, SoundChoice, EveryCall}
 use Rattle.sbr_run.proofs.OneFrame.{Good}
 use Rattle.sbr_run.proofs.Transmit.{GoodChain, Left, run-left, written}
 use Rattle.sbr_run.proofs.Receive.{read-back-by}
@@ -79,47 +80,23 @@ differ-sym a b ne c bs m rs = ne (sym c) (sym bs) (sym m) (sym rs)
 
 -- ---- energies
 
-length-row : (x : SampleAt) (table : List ℕ) (env : Span) → length (row x table env) ≡ length table - 1
-length-row x table env = length-map (spans table) (meanIn x env) ∙ spans-length table 0 (length table - 1)
-
-pick : (f : Bool) (high low : List ℕ) → length (cond f high low) - 1 ≡ cond f (length high - 1) (length low - 1)
-pick true high low = refl
-pick false high low = refl
-
--- as many numbers as the row lengths say, where there is an envelope for each flag
-length-rows : (x : SampleAt) (high low : List ℕ) (fs : List Bool) (envs : List Span) → length fs ≡ length envs → length (rows x high low fs envs) ≡ sumOf (rowLengths high low fs)
-unfolding rows
-length-rows x high low [] envs e = refl
-length-rows x high low (f ∷ fs) [] e = absurd (omega arith)
-length-rows x high low (f ∷ fs) (env ∷ envs) e =
-    length-append (row x (cond f high low) env) (rows x high low fs envs)
-    ∙ omega (arith, length-row x (cond f high low) env, pick f high low, length-rows x high low fs envs (omega arith))
-
-fitted-is : (room : ℕ) (all es : List Float) (b : Bool) → _≡_ {A = Outcome (List Float)} (cond b (answered all) (refused Room)) (answered es) → all ≡ es
-fitted-is room all es true e = cc
-fitted-is room all es false e = let z : _≡_ {A = ℕ} 0 1 = cc in absurd (omega arith)
-
 count-timed : (n : ℕ) (high low : List ℕ) (x : SampleAt) (g : Grid) (room : ℕ) (es : List Float) (o : Outcome Times) → timeGrid n g ≡ o → rowsOf x high low g room o ≡ answered es
-    → length es ≡ sumOf (rowLengths high low (g .freqRes))
+    → length es ≡ sumOf (rowLengths (length high - 1) (length low - 1) (g .freqRes))
+unfolding rowsLength
 count-timed n high low x g room es (refused r) q e = let z : _≡_ {A = ℕ} 0 1 = cc in absurd (omega arith)
 count-timed n high low x g room es (answered t) q e =
     let ends = time-ends n g t q in
     let all = rows x high low (g .freqRes) (spans (t .tE)) in
-    ap length (sym (fitted-is room all es (leb (length all) room) e))
-    ∙ length-rows x high low (g .freqRes) (spans (t .tE)) (omega (arith, spans-length (t .tE) 0 (length (t .tE) - 1), ends .count))
-
-count-by : (n : ℕ) (high low : List ℕ) (x : List Float) (g : Grid) (room : ℕ) (es : List Float) (a b c : Bool)
-    → cond a (cond b (cond c (rowsOf (columns x) high low g room (timeGrid n g)) (refused Samples)) (refused Tables)) (refused SlotCount) ≡ answered es
-    → length es ≡ sumOf (rowLengths high low (g .freqRes))
-count-by n high low x g room es true true true e = count-timed n high low (columns x) g room es (timeGrid n g) refl e
-count-by n high low x g room es true true false e = let z : _≡_ {A = ℕ} 0 1 = cc in absurd (omega arith)
-count-by n high low x g room es true false c e = let z : _≡_ {A = ℕ} 0 1 = cc in absurd (omega arith)
-count-by n high low x g room es false b c e = let z : _≡_ {A = ℕ} 0 1 = cc in absurd (omega arith)
+    let same : es ≡ all = cc (unless-answered (leb (length all) room) _ _ e .1) in
+    ap length same
+    ∙ rows-length x high low (g .freqRes) (spans (t .tE)) (omega (arith, spans-length (t .tE) 0 (length (t .tE) - 1), ends .count))
 
 energies-count : (n : ℕ) (high low : List ℕ) (x : List Float) (g : Grid) (room : ℕ) (es : List Float) → energies n high low x g room ≡ answered es
-    → length es ≡ sumOf (rowLengths high low (g .freqRes))
+    → length es ≡ sumOf (rowLengths (length high - 1) (length low - 1) (g .freqRes))
 unfolding energies
-energies-count n high low x g room es e = count-by n high low x g room es (slotCount n) (tablesFit high low) (leb (samplesNeeded n) (length x)) e
+energies-count n high low x g room es e =
+    let f = unless-answered (tablesFit high low) _ _ (unless-answered (slotCount n) _ _ e .1) in
+    count-timed n high low (columns x) g room es (timeGrid n g) refl (unless-answered (leb (samplesNeeded n) (length x)) _ _ (f .1) .1)
 
 -- ---- the claim
 

@@ -1,8 +1,8 @@
 -- A transmitter's run: document 01, "Runs, for term 3". The calls are those of the public contracts: `elect`, `timeGrid`, `writeGrid`.
 -- The call that chooses a turn's record is a parameter of the run. That of term 3 is the election, `Elects`.
 use mathlib.Core.Path.{_≡_}
-use mathlib.Core.Bool.{Bool, cond}
-use mathlib.Core.List.{List, [], _∷_, _++_, map}
+use mathlib.Core.Bool.{Bool}
+use mathlib.Core.List.{List, [], _∷_, _++_}
 use Prim.Native.Nat.{ℕ, _+_, _-_, _≤_}
 use lib.IntN.{ℤ, pos}
 use lib.ListN.{length, getD}
@@ -14,6 +14,7 @@ use Rattle.sbr_grid.specs.Times.{Times}
 use Rattle.sbr_time_grid.specs.TimeGrid.{timeGrid}
 use Rattle.sbr_writer.specs.Syntax.{gridBits}
 use Rattle.sbr_writer.specs.Write.{Wrote, writeGrid}
+use Rattle.sbr_envelopes.specs.Envelopes.{rowLengths}
 use Rattle.sbr_encoder.specs.Election.{Elected, elect}
 
 -- ---- a turn
@@ -125,10 +126,6 @@ pub record Run (By : Choosing) (r : Terms) (s : State) (ts : List Turn) : Type 0
 
 -- ---- frames and the stream
 
--- row lengths: for each envelope the entries of the table of its resolution, less 1
-abbrev pub rowLengths : List ℕ → List ℕ → List Bool → List ℕ
-rowLengths high low fs = map (λ f. cond f (length high - 1) (length low - 1)) fs
-
 pub record Frame : Type 0 where
   pub class : FrameClass
   pub borders : List ℕ
@@ -137,7 +134,8 @@ pub record Frame : Type 0 where
   pub resolutions : List Bool
   pub rows : List ℕ
 
--- class and resolutions of the record, borders, noise borders and mark of its time grid
+-- class and resolutions of the record, borders, noise borders and mark of its time grid; a row length for each envelope: the entries of the table of its
+-- resolution, less 1
 abbrev pub frameOf : Terms → Sent → Frame
 frameOf r f = record {
   class = f .grid .frameClass;
@@ -145,7 +143,7 @@ frameOf r f = record {
   noise = f .time .tQ;
   mark = f .time .lA;
   resolutions = f .grid .freqRes;
-  rows = rowLengths (r .high) (r .low) (f .grid .freqRes);
+  rows = rowLengths (length (r .high) - 1) (length (r .low) - 1) (f .grid .freqRes);
 }
 
 -- the frames' sbr_grid() one after another

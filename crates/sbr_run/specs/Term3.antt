@@ -2,8 +2,8 @@
 -- are sound from the lead. Proved in proofs/Term3.antt.
 use mathlib.Core.Path.{_≡_}
 use mathlib.Core.Bool.{Bool}
-use mathlib.Core.List.{List, [], _∷_, _++_, map}
-use Prim.Native.Nat.{ℕ, _+_, _≤_, _<_}
+use mathlib.Core.List.{List, _++_, map}
+use Prim.Native.Nat.{ℕ, _+_, _-_, _≤_, _<_}
 use lib.IntN.{ℤ}
 use lib.ListN.{length, take, getD}
 use lib.Ieee.{Float}
@@ -18,8 +18,8 @@ use Rattle.sbr_writer.specs.Write.{writeGrid}
 use Rattle.sbr_onsets.specs.Onsets.{leadOf}
 use Rattle.sbr_encoder.specs.Election.{Elected}
 use Rattle.sbr_encoder.specs.Electable.{Electable}
-use Rattle.sbr_envelopes.specs.Envelopes.{energies}
-use Rattle.sbr_run.specs.Run.{Turn, Sent, Terms, Choosing, Elects, State, after, sent, Run, rowLengths, Frame, frameOf, stream, Chain}
+use Rattle.sbr_envelopes.specs.Envelopes.{sumOf, rowLengths, energies}
+use Rattle.sbr_run.specs.Run.{Turn, Sent, Terms, Choosing, Elects, State, after, sent, Run, Frame, frameOf, stream, Chain}
 use Rattle.sbr_run.specs.Readings.{Reading, reading, listened, read, inTerms, Readings, Holds}
 
 -- ---- the transmitter
@@ -68,11 +68,6 @@ pub record Apart (ts ts' : List Turn) : Type 0 where
 
 -- ---- the claim
 
--- the sum of a list
-abbrev pub sumOf : List ℕ → ℕ
-sumOf [] = 0
-sumOf (x ∷ xs) = x + sumOf xs
-
 -- that of the runs by one choosing call
 pub record Term3Of (By : Choosing) : Type 0 where
   pub sendable : (r : Terms) (previous : ℤ) (e : Elected) → By r previous (answered e) → Sendable (r .slots) (e .grid)
@@ -83,7 +78,7 @@ pub record Term3Of (By : Choosing) : Type 0 where
       → ReadBack r (sent ts) (s .border) (after s ts .border) bytes q rs
   -- energies that answer for a record answer the sum of its row lengths: for those sent and those read, and any other
   pub energies-count : (n : ℕ) (high low : List ℕ) (x : List Float) (g : Grid) (room : ℕ) (es : List Float)
-      → energies n high low x g room ≡ answered es → length es ≡ sumOf (rowLengths high low (g .freqRes))
+      → energies n high low x g room ≡ answered es → length es ≡ sumOf (rowLengths (length high - 1) (length low - 1) (g .freqRes))
   -- two runs of one slot count that differ in a frame that both have sent
   pub apart : (r r' : Terms) (s s' : State) (ts ts' : List Turn) → Run By r s ts → Run By r' s' ts' → r .slots ≡ r' .slots
       → (i : ℕ) (d : Sent) → i < length (sent ts) → i < length (sent ts')

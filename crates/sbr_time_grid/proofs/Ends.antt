@@ -1,6 +1,6 @@
 -- What an answer of `timeGrid` tells: the tests that it passed, and the first and the last border.
 use mathlib.Core.Path.{_≡_, refl}
-use mathlib.Core.Bool.{Bool, true, false, cond, _&&_, and-eq-true-iff}
+use mathlib.Core.Bool.{true, _&&_, and-eq-true-iff}
 use Prim.Native.Nat.{ℕ, _+_, _≤_, _<_}
 use native.Mathlib.Nat.{zero-add}
 use native.Mathlib.Omega.{arith}
@@ -9,10 +9,10 @@ use lib.Dec.{leb}
 use lib.ListN.{length, getD}
 use Rattle.sbr_grid.specs.declared.FrameClass.{FrameClass}
 use Rattle.sbr_grid.specs.declared.FrameClass.the-variants.{FixFix, FixVar, VarFix, VarVar}
-use Rattle.sbr_grid.specs.declared.Refusal.the-variants.{SlotCount, TimeGrid}
-use Rattle.sbr_grid.specs.Refusals.{answered, refused}
+use Rattle.sbr_grid.specs.Refusals.{answered}
 use Rattle.sbr_grid.specs.Grid.{byClass, Grid, numEnv}
 use Rattle.sbr_grid.specs.Times.{Times, slotCount}
+use Rattle.sbr_grid.proofs.Refusals.{unless-answered}
 use Rattle.sbr_time_grid.specs.TimeGrid.{absBordLead, absBordTrail, bordersFit, tE, times, accepts, timeGrid}
 use Rattle.sbr_time_grid.proofs.Laws.{Counts, counts}
 use Rattle.sbr_time_grid.proofs.Borders.{length-listFrom, getD-listFrom}
@@ -23,18 +23,13 @@ pub record Passed (n : ℕ) (g : Grid) (t : Times) : Type 0 where
   pub tests : accepts n g ≡ true
   pub value : t ≡ times n g
 
--- the next law, by the two tests
-passed : (n : ℕ) (g : Grid) (t x : Times) (a b : Bool) → slotCount n ≡ a → accepts n g ≡ b → x ≡ times n g
-    → cond a (cond b (answered x) (refused TimeGrid)) (refused SlotCount) ≡ answered t → Passed n g t
-passed n g t x true true p q r e = record { slots = p; tests = q; value = cc }
-passed n g t x true false p q r e = let z : _≡_ {A = ℕ} 0 1 = cc in absurd (omega arith)
-passed n g t x false true p q r e = let z : _≡_ {A = ℕ} 0 1 = cc in absurd (omega arith)
-passed n g t x false false p q r e = let z : _≡_ {A = ℕ} 0 1 = cc in absurd (omega arith)
-
 -- a record that has a time grid passes the tests, and its time grid is made of its borders
 pub time-passes : (n : ℕ) (g : Grid) (t : Times) → timeGrid n g ≡ answered t → Passed n g t
 unfolding timeGrid
-time-passes n g t e = passed n g t (times n g) (slotCount n) (accepts n g) refl refl refl e
+time-passes n g t e =
+    let s = unless-answered (slotCount n) _ _ e in
+    let p = unless-answered (accepts n g) _ _ (s .1) in
+    record { slots = s .0; tests = p .0; value = cc (p .1) }
 
 -- where the border bytes in use are at most 3, the first border is too, and the last is at most 3 past the last slot
 low : (k : FrameClass) (n a b : ℕ) → byClass k true (leb b 3) (leb a 3) (leb a 3 && leb b 3) ≡ true

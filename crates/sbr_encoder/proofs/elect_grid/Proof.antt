@@ -9,7 +9,7 @@ use mir.Syntax.{w32}
 use mir.ValLaws.{toZ-ofZ}
 use Rattle.sbr_grid.specs.Times.{slotCount}
 use Rattle.sbr_bands.specs.Tables.{tablesFit}
-use Rattle.sbr_envelopes.specs.Envelopes.{samplesNeeded}
+use Rattle.sbr_qmf.specs.Qmf.{samplesNeeded}
 use Rattle.sbr_time_grid.proofs.Laws.{slot-range}
 use Rattle.sbr_encoder.proofs.Ways.{no-slots, no-tables, no-samples, passes}
 use Rattle.sbr_encoder.proofs.elect_grid.Statement.{statement}
@@ -23,7 +23,7 @@ fit : (c : tie.Else2) → let a = c .before .before .before .before .before .bef
 fit c = sym (c .before .tables-fit .ensures) ∙ not-false _ (c .if2 .left)
 
 enough : (c : tie.Else3) → let a = c .before .before .before .before .before .before .before .before .before .args in samplesNeeded (a .num-time-slots) ≤ length (a .x .now)
-enough c = omega (arith, c .before .samples-needed .ensures, c .if3 .left)
+enough c = omega (arith, rw (slots (c .before .before .before .before)) at (c .before .samples-needed .ensures), c .if3 .left)
 
 is-slot-count-requires : tie.Need-is-slot-count-requires
 is-slot-count-requires c κs = search needs
@@ -50,7 +50,7 @@ returns-2 c =
     (slots (c .before .before .before)) (sym (c .before .before .tables-fit .ensures) ∙ not-true _ (c .before .if2 .taken)) (c .refusal2 .ensures)
 
 samples-needed-requires : tie.Need-samples-needed-requires
-samples-needed-requires c κs = slots (c .before .before)
+samples-needed-requires c κs = search needs
 
 refusal-requires-3 : tie.Need-refusal-requires-3
 refusal-requires-3 c κs = search needs
@@ -59,7 +59,7 @@ returns-3 : tie.Need-returns-3
 returns-3 c =
     let a = c .before .before .before .before .before .before .before .before .before .before .args in
     no-samples (a .num-time-slots) (a .high .now) (a .low .now) (a .x .now) (a .t-e-last-prev) (a .variable-borders) _
-    (slots (c .before .before .before .before .before)) (fit (c .before .before .before)) (omega (arith, c .before .before .samples-needed .ensures, c .before .if3 .taken)) (c .refusal3 .ensures)
+    (slots (c .before .before .before .before .before)) (fit (c .before .before .before)) (omega (arith, rw (slots (c .before .before .before .before .before)) at (c .before .before .samples-needed .ensures), c .before .if3 .taken)) (c .refusal3 .ensures)
 
 elected-requires : tie.Need-elected-requires
 elected-requires c κs =

@@ -8,9 +8,8 @@ use Rattle.sbr_grid.specs.declared.Refusal.the-variants.{SlotCount, Samples, Ta
 use Rattle.sbr_grid.specs.Grid.{viewOf}
 use Rattle.sbr_grid.specs.Times.{slotCount}
 use Rattle.sbr_time_grid.specs.TimeGrid.{timeGrid}
-use Rattle.sbr_qmf.specs.Qmf.{columns}
+use Rattle.sbr_qmf.specs.Qmf.{columns, samplesNeeded}
 use Rattle.sbr_bands.specs.Tables.{tablesFit}
-use Rattle.sbr_envelopes.specs.Envelopes.{samplesNeeded}
 use Rattle.sbr_envelopes.proofs.Answers.{refuses, rows-of-long, no-slots, no-tables, no-samples, passed}
 use borrow.Author.Needs.{needs}
 use Rattle.sbr_envelopes.proofs.estimate_envelopes.Statement.{statement}
@@ -27,7 +26,7 @@ fit : (c : tie.Else2) → let a = start (c .before .before) .args in tablesFit (
 fit c = sym (c .before .tables-fit .ensures) ∙ not-false _ (c .if2 .left)
 
 enough : (c : tie.Else3) → let a = start (c .before .before .before .before) .args in samplesNeeded (a .num-time-slots) ≤ length (a .x .now)
-enough c = omega (arith, c .before .samples-needed .ensures, c .if3 .left)
+enough c = omega (arith, rw (slots (c .before .before .before .before)) at (c .before .samples-needed .ensures), c .if3 .left)
 
 is-slot-count-requires : tie.Need-is-slot-count-requires
 is-slot-count-requires c κs = search needs
@@ -46,12 +45,12 @@ returns-2 c =
     refuses _ Tables _ (no-tables (a .high .now) (a .low .now) (a .x .now) (a .grid) (a .num-time-slots) _ (slots (c .before .before)) (sym (c .before .tables-fit .ensures) ∙ not-true _ (c .if2 .taken)))
 
 samples-needed-requires : tie.Need-samples-needed-requires
-samples-needed-requires c κs = slots (c .before .before)
+samples-needed-requires c κs = search needs
 
 returns-3 : tie.Need-returns-3
 returns-3 c =
     let a = start (c .before .before .before .before) .args in
-    refuses _ Samples _ (no-samples (a .high .now) (a .low .now) (a .x .now) (a .grid) (a .num-time-slots) _ (slots (c .before .before .before .before)) (fit (c .before .before)) (omega (arith, c .before .samples-needed .ensures, c .if3 .taken)))
+    refuses _ Samples _ (no-samples (a .high .now) (a .low .now) (a .x .now) (a .grid) (a .num-time-slots) _ (slots (c .before .before .before .before)) (fit (c .before .before)) (omega (arith, rw (slots (c .before .before .before .before)) at (c .before .samples-needed .ensures), c .if3 .taken)))
 
 timed-rows-requires : tie.Need-timed-rows-requires
 timed-rows-requires c κs = (slots (c .before .before .before .before .before), fit (c .before .before .before), enough (c .before))
