@@ -12,8 +12,8 @@ use Rattle.sbr_time_grid.specs.TimeGrid.{derivedOf}
 use Rattle.sbr_writer.specs.declared.Written.{Written}
 use Rattle.sbr_writer.specs.declared.Written.the-variants.{To, Refused as NotWritten}
 use Rattle.sbr_writer.specs.Write.{Wrote, writtenOf, bytesAfter}
-use Rattle.sbr_give.specs.Given.{codeOf, timeOut}
-use Rattle.sbr_give.proofs.Answers.{has-answered, Out, handed-out, TimesAt}
+use Rattle.c_values.specs.Given.{codeOf, timeOut}
+use Rattle.c_values.proofs.Answers.{has-answered, Out, handed-out, TimesAt}
 use Rattle.c_bits.specs.Calls.{writeOut}
 
 module _ (o : Outcome Times) (d : Derived) (e : d ≡ derivedOf o) (r : ℕ) (k : r ≡ codeOf (d .answer)) where

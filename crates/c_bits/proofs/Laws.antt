@@ -7,8 +7,8 @@ use Rattle.sbr_grid.specs.declared.Refusal.the-variants.{Record}
 use Rattle.sbr_grid.specs.Refusals.{Outcome, refused}
 use Rattle.sbr_grid.specs.Grid.{viewOf, recordOf, Grid}
 use Rattle.sbr_grid.specs.Times.{slotCount}
-use Rattle.sbr_form.specs.declared.Formed.{Formed}
-use Rattle.sbr_form.specs.Handed.{formedOf}
+use Rattle.c_values.specs.declared.form.Formed.{Formed}
+use Rattle.c_values.specs.Handed.{formedOf}
 use Rattle.c_bits.specs.Calls.{forming, slotted}
 
 -- what says that nothing was formed is refused

@@ -7,8 +7,8 @@ use Rattle.sbr_grid.specs.Refusals.{Outcome, unless}
 use Rattle.sbr_grid.specs.Times.{Times, slotCount}
 use Rattle.sbr_time_grid.specs.TimeGrid.{timeGrid}
 use Rattle.sbr_writer.specs.Write.{Wrote, writeGrid}
-use Rattle.sbr_form.specs.declared.Handed.{Handed}
-use Rattle.sbr_form.specs.Handed.{gridFrom, formed, formable}
+use Rattle.c_values.specs.declared.form.Handed.{Handed}
+use Rattle.c_values.specs.Handed.{gridFrom, formed, formable}
 
 -- a call for which ok says that all can be formed: 5, then its own refusals; where it has a slot count, 1 before
 abbrev pub forming : {A : Type 0} → Bool → Outcome A → Outcome A

@@ -1,9 +1,9 @@
 // What the calls of C for writing and time grids do. sbr_c exports them.
-use sbr_form::Handed;
+use c_values::form::Handed;
 use sbr_grid::Refusal;
 use sbr_writer::Written;
-ghost use Rattle.sbr_form.specs.Handed.{handed};
-ghost use Rattle.sbr_give.specs.Given.{Gives, timeOut};
+ghost use Rattle.c_values.specs.Handed.{handed};
+ghost use Rattle.c_values.specs.Given.{Gives, timeOut};
 ghost use Rattle.c_bits.specs.Calls.{writeCall, timeCall, writeOut};
 
 // sbr_grid() of a record is written at a bit position, which is moved past it.
@@ -33,7 +33,7 @@ pub fn write_grid(
         num_rel_1,
         pointer,
     };
-    let formed = sbr_form::form_record(handed, freq_res, rel_bord_0, rel_bord_1);
+    let formed = c_values::form::form_record(handed, freq_res, rel_bord_0, rel_bord_1);
     if !formed.is_formed {
         return Refusal::Record.number();
     }
@@ -79,16 +79,16 @@ pub fn derive_time_grid(
         num_rel_1,
         pointer,
     };
-    let formed = sbr_form::form_borders(handed, rel_bord_0, rel_bord_1);
+    let formed = c_values::form::form_borders(handed, rel_bord_0, rel_bord_1);
     if !formed.is_formed {
         return Refusal::Record.number();
     }
     let derived = sbr_time_grid::derive_time_grid(formed.grid, num_time_slots as usize);
     let answer = derived.answer;
-    let code = sbr_give::code_of(answer);
+    let code = c_values::give::code_of(answer);
     if code != 0 {
         return code;
     }
-    sbr_give::give_times(derived.time, t_e, t_q, l_a);
+    c_values::give::give_times(derived.time, t_e, t_q, l_a);
     0
 }

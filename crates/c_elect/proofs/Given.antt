@@ -14,8 +14,8 @@ use Rattle.sbr_encoder.specs.declared.Election.{Election}
 use Rattle.sbr_encoder.specs.Election.{Elected, elect, electionOf}
 use Rattle.sbr_encoder.specs.Electable.{Electable}
 use Rattle.sbr_encoder.proofs.EveryElection.{every-election}
-use Rattle.sbr_give.specs.Given.{codeOf, Few}
-use Rattle.sbr_give.proofs.Answers.{has-answered, Out, handed-out, RecordAt, shown, shown-record}
+use Rattle.c_values.specs.Given.{codeOf, Few}
+use Rattle.c_values.proofs.Answers.{has-answered, Out, handed-out, RecordAt, shown, shown-record}
 use Rattle.c_elect.specs.Elections.{electionOut}
 use Rattle.c_read.proofs.Readings.{few-of}
 

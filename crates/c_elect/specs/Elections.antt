@@ -7,7 +7,7 @@ use lib.Ieee.{Float}
 use Rattle.bits.specs.Bits.{bitN}
 use Rattle.sbr_grid.specs.Refusals.{Outcome}
 use Rattle.sbr_encoder.specs.Election.{Elected, elect}
-use Rattle.sbr_give.specs.Given.{recordOut}
+use Rattle.c_values.specs.Given.{recordOut}
 use Rattle.c_bits.specs.Calls.{slotted}
 
 -- an election: 1, 5 for a switch that is neither 0 nor 1, then as `elect`

@@ -1,6 +1,6 @@
 // What the call of C for an election does. sbr_c exports it.
 use sbr_grid::Refusal;
-ghost use Rattle.sbr_give.specs.Given.{Gives};
+ghost use Rattle.c_values.specs.Given.{Gives};
 ghost use Rattle.c_elect.specs.Elections.{electCall, electionOut};
 
 // The grid of a frame from its samples: its record, and whether the frame has an onset.
@@ -34,12 +34,12 @@ pub fn elect_grid(
         num_time_slots as usize,
     );
     let answer = elected.answer;
-    let code = sbr_give::code_of(answer);
+    let code = c_values::give::code_of(answer);
     if code != 0 {
         return code;
     }
     let onset = elected.transient as u32;
     *transient = onset;
-    sbr_give::give_record(elected.grid, numbers, freq_res, rel_bord_0, rel_bord_1);
+    c_values::give::give_record(elected.grid, numbers, freq_res, rel_bord_0, rel_bord_1);
     0
 }

@@ -18,8 +18,8 @@ use Rattle.sbr_bands.specs.Tables.{tablesFit}
 use Rattle.sbr_envelopes.specs.declared.Estimated.{Estimated}
 use Rattle.sbr_envelopes.specs.declared.Estimated.the-variants.{Count, Refused as NotEstimated}
 use Rattle.sbr_envelopes.specs.Envelopes.{rowsOf, energies, estimatedOf, numbersAfter}
-use Rattle.sbr_form.proofs.Same.{same, counted, time-else}
-use Rattle.sbr_give.proofs.Answers.{Out}
+use Rattle.c_values.proofs.Same.{same, counted, time-else}
+use Rattle.c_values.proofs.Answers.{Out}
 use Rattle.c_energies.specs.Energies.{energyOut}
 
 -- a test that was passed is passed again

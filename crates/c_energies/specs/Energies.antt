@@ -5,8 +5,8 @@ use lib.ListN.{length}
 use lib.Ieee.{Float}
 use Rattle.sbr_grid.specs.Refusals.{Outcome, answered}
 use Rattle.sbr_envelopes.specs.Envelopes.{energies, numbersAfter}
-use Rattle.sbr_form.specs.declared.Handed.{Handed}
-use Rattle.sbr_form.specs.Handed.{gridFrom, formable}
+use Rattle.c_values.specs.declared.form.Handed.{Handed}
+use Rattle.c_values.specs.Handed.{gridFrom, formable}
 use Rattle.c_bits.specs.Calls.{slotted}
 
 -- energies: 1, 5 for what can't be formed, then as `energies`

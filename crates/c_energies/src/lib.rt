@@ -1,10 +1,10 @@
 // What the call of C for energies does. sbr_c exports it.
+use c_values::form::Handed;
 use sbr_envelopes::Estimated;
-use sbr_form::Handed;
 use sbr_grid::Refusal;
 ghost use lib.ListN.{length};
-ghost use Rattle.sbr_form.specs.Handed.{handed};
-ghost use Rattle.sbr_give.specs.Given.{Gives};
+ghost use Rattle.c_values.specs.Handed.{handed};
+ghost use Rattle.c_values.specs.Given.{Gives};
 ghost use Rattle.c_energies.specs.Energies.{energyCall, energyOut};
 
 // The energies of a record's envelopes, and how many numbers they are.
@@ -42,7 +42,7 @@ pub fn estimate_envelopes(
         num_rel_1,
         pointer,
     };
-    let formed = sbr_form::form_record(handed, freq_res, rel_bord_0, rel_bord_1);
+    let formed = c_values::form::form_record(handed, freq_res, rel_bord_0, rel_bord_1);
     if !formed.is_formed {
         return Refusal::Record.number();
     }

@@ -16,8 +16,8 @@ use Rattle.sbr_reader.specs.declared.Carried.{Carried}
 use Rattle.sbr_reader.specs.Read.{Accepted, readGrid, frameReadOf}
 use Rattle.sbr_parse.specs.Inverse.{cleared}
 use Rattle.sbr_reader.proofs.Frames.{frame-writes}
-use Rattle.sbr_give.specs.Given.{codeOf, timeOut, Few}
-use Rattle.sbr_give.proofs.Answers.{has-answered, Out, handed-out, TimesAt, RecordAt, shown, shown-record}
+use Rattle.c_values.specs.Given.{codeOf, timeOut, Few}
+use Rattle.c_values.proofs.Answers.{has-answered, Out, handed-out, TimesAt, RecordAt, shown, shown-record}
 use Rattle.c_read.specs.Frames.{frameOut}
 
 -- one or two is at most two

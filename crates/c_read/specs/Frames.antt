@@ -3,7 +3,7 @@ use mathlib.Core.List.{List}
 use Prim.Native.Nat.{ℕ}
 use lib.IntN.{ℤ, pos}
 use Rattle.sbr_reader.specs.Read.{Accepted}
-use Rattle.sbr_give.specs.Given.{recordOut, timeOut}
+use Rattle.c_values.specs.Given.{recordOut, timeOut}
 
 -- a frame: the position after it, its last border, its record and its time grid
 abbrev pub frameOut : Accepted → ℕ × ℤ × (List ℕ × List ℕ × List ℕ × List ℕ) × (List ℕ × List ℕ × ℤ)

@@ -1,7 +1,7 @@
 // What the call of C for reading does. sbr_c exports it.
 use sbr_reader::Carried;
 ghost use Rattle.sbr_reader.specs.Read.{readGrid};
-ghost use Rattle.sbr_give.specs.Given.{Gives};
+ghost use Rattle.c_values.specs.Given.{Gives};
 ghost use Rattle.c_read.specs.Frames.{frameOut};
 
 // The frame at a bit position: record, time grid, the position after it and its last border.
@@ -29,14 +29,14 @@ pub fn read_grid(
         Carried { border: before },
     );
     let answer = read.answer;
-    let code = sbr_give::code_of(answer);
+    let code = c_values::give::code_of(answer);
     if code != 0 {
         return code;
     }
     let last = read.carried.border;
     *position = read.position as u64;
     *border = last;
-    sbr_give::give_record(read.grid, numbers, freq_res, rel_bord_0, rel_bord_1);
-    sbr_give::give_times(read.time, t_e, t_q, l_a);
+    c_values::give::give_record(read.grid, numbers, freq_res, rel_bord_0, rel_bord_1);
+    c_values::give::give_times(read.time, t_e, t_q, l_a);
     0
 }

@@ -13,9 +13,9 @@ use Rattle.sbr_run.specs.declared.Sending.{Sending}
 use Rattle.sbr_run.specs.Run.{Turn, Turned, turn, lastBorder}
 use Rattle.sbr_run.specs.Place.{sendingOf, bytesLeft}
 use Rattle.sbr_run.proofs.OneFrame.{calls}
-use Rattle.sbr_give.specs.Given.{codeOf, timeOut}
-use Rattle.sbr_give.specs.Given.{Few}
-use Rattle.sbr_give.proofs.Answers.{has-answered, has-refused, Out, handed-out, TimesAt, RecordAt, shown, shown-record}
+use Rattle.c_values.specs.Given.{codeOf, timeOut}
+use Rattle.c_values.specs.Given.{Few}
+use Rattle.c_values.proofs.Answers.{has-answered, has-refused, Out, handed-out, TimesAt, RecordAt, shown, shown-record}
 use Rattle.c_send.specs.Turns.{sendOut}
 use Rattle.c_elect.proofs.Given.{elected-few}
 

@@ -8,7 +8,7 @@ use Rattle.bits.specs.Bits.{bitN}
 use Rattle.sbr_grid.specs.Refusals.{Outcome}
 use Rattle.sbr_run.specs.Run.{Turned, turn, lastBorder}
 use Rattle.sbr_run.specs.Place.{turnFrom}
-use Rattle.sbr_give.specs.Given.{recordOut, timeOut}
+use Rattle.c_values.specs.Given.{recordOut, timeOut}
 use Rattle.c_bits.specs.Calls.{slotted}
 
 -- a turn: 1, 5 for a switch that is neither 0 nor 1, then as `turn`

@@ -2,7 +2,7 @@
 use sbr_grid::Refusal;
 use sbr_reader::Carried;
 use sbr_run::Place;
-ghost use Rattle.sbr_give.specs.Given.{Gives};
+ghost use Rattle.c_values.specs.Given.{Gives};
 ghost use Rattle.c_send.specs.Turns.{sendCall, sendOut};
 
 // A transmitter's turn: elects the grid of a frame, writes it at the bit position and moves position and border on.
@@ -47,7 +47,7 @@ pub fn send_frame(
         place,
     );
     let answer = sending.answer;
-    let code = sbr_give::code_of(answer);
+    let code = c_values::give::code_of(answer);
     if code != 0 {
         return code;
     }
@@ -56,7 +56,7 @@ pub fn send_frame(
     *position = sending.place.position as u64;
     *border = last_sent;
     *transient = onset_sent;
-    sbr_give::give_record(sending.grid, numbers, freq_res, rel_bord_0, rel_bord_1);
-    sbr_give::give_times(sending.time, t_e, t_q, l_a);
+    c_values::give::give_record(sending.grid, numbers, freq_res, rel_bord_0, rel_bord_1);
+    c_values::give::give_times(sending.time, t_e, t_q, l_a);
     0
 }

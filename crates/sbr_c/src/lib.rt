@@ -3,8 +3,8 @@
 // c_energies and c_send.
 ghost use lib.ListN.{length};
 ghost use Rattle.sbr_reader.specs.Read.{readGrid};
-ghost use Rattle.sbr_form.specs.Handed.{handed};
-ghost use Rattle.sbr_give.specs.Given.{Gives, timeOut};
+ghost use Rattle.c_values.specs.Handed.{handed};
+ghost use Rattle.c_values.specs.Given.{Gives, timeOut};
 ghost use Rattle.c_bits.specs.Calls.{writeCall, timeCall, writeOut};
 ghost use Rattle.c_read.specs.Frames.{frameOut};
 ghost use Rattle.c_elect.specs.Elections.{electCall, electionOut};

@@ -6,8 +6,8 @@ use borrow.Author.Tests.{not-true, not-false}
 use Rattle.sbr_grid.specs.declared.Refusal.the-variants.{SlotCount, Record}
 use Rattle.sbr_grid.specs.Times.{slotCount}
 use Rattle.sbr_time_grid.specs.TimeGrid.{timeGrid}
-use Rattle.sbr_form.proofs.Same.{time-same}
-use Rattle.sbr_give.proofs.Answers.{gives-refused, gives-coded, gives-answered}
+use Rattle.c_values.proofs.Same.{time-same}
+use Rattle.c_values.proofs.Answers.{gives-refused, gives-coded, gives-answered}
 use Rattle.c_bits.proofs.Laws.{not-formed, is-formed-in}
 use Rattle.c_bits.proofs.Answers.{derived-code, has-derived}
 use Rattle.c_bits.proofs.derive_time_grid.Statement.{statement}

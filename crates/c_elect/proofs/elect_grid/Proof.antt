@@ -9,7 +9,7 @@ use lib.Dec.{leb, eqb}
 use Rattle.sbr_grid.specs.declared.Refusal.the-variants.{SlotCount, Record}
 use Rattle.sbr_grid.specs.Times.{slotCount}
 use Rattle.sbr_encoder.specs.Election.{elect, electionOf}
-use Rattle.sbr_give.proofs.Answers.{gives-refused, gives-coded, gives-answered}
+use Rattle.c_values.proofs.Answers.{gives-refused, gives-coded, gives-answered}
 use Rattle.c_bits.specs.Calls.{slotted}
 use Rattle.c_elect.proofs.Given.{elect-code, elect-few, has-elected}
 use Rattle.c_elect.proofs.elect_grid.Statement.{statement}

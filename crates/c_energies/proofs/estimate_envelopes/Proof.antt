@@ -6,7 +6,7 @@ use borrow.Author.Tests.{not-true, not-false}
 use Rattle.sbr_grid.specs.declared.Refusal.the-variants.{SlotCount, Record}
 use Rattle.sbr_grid.specs.Times.{slotCount}
 use Rattle.sbr_envelopes.specs.Envelopes.{energies}
-use Rattle.sbr_give.proofs.Answers.{gives-refused, gives-answered}
+use Rattle.c_values.proofs.Answers.{gives-refused, gives-answered}
 use Rattle.c_bits.proofs.Laws.{not-formed, is-formed-in}
 use Rattle.c_energies.proofs.Same.{energy-same, has-estimated, not-estimated}
 use Rattle.c_energies.proofs.estimate_envelopes.Statement.{statement}

@@ -4,7 +4,7 @@ use mathlib.Core.Path.{_≡_, refl}
 use mir.Syntax.{w32}
 use mir.ValLaws.{toZ-ofZ}
 use Rattle.sbr_reader.specs.Read.{readGrid, frameReadOf}
-use Rattle.sbr_give.proofs.Answers.{gives-coded, gives-answered}
+use Rattle.c_values.proofs.Answers.{gives-coded, gives-answered}
 use Rattle.c_read.proofs.Readings.{read-code, read-few, has-read}
 use Rattle.c_read.proofs.read_grid.Statement.{statement}
 use Rattle.c_read.proofs.read_grid.Tie as tie

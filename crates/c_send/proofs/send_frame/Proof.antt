@@ -13,7 +13,7 @@ use Rattle.sbr_grid.specs.Times.{slotCount}
 use Rattle.sbr_run.specs.declared.Place.{Place}
 use Rattle.sbr_run.specs.Run.{Turn, turn}
 use Rattle.sbr_run.specs.Place.{turnFrom, sendingOf, bytesLeft}
-use Rattle.sbr_give.proofs.Answers.{gives-refused, gives-coded, gives-answered}
+use Rattle.c_values.proofs.Answers.{gives-refused, gives-coded, gives-answered}
 use Rattle.c_bits.specs.Calls.{slotted}
 use Rattle.c_send.proofs.Sendings.{send-code, not-sent, sent-few, has-sent}
 use Rattle.c_send.proofs.send_frame.Statement.{statement}

@@ -1,0 +1,3 @@
+// What C hands in, and what C is given.
+pub mod form;
+pub mod give;
