@@ -61,10 +61,10 @@ int main(void)
     double energies[SBR_MAX_ENERGIES];
     uint64_t count;
     r = sbr_estimate_envelopes(samples, SBR_SAMPLES_16, table_high, 4, table_low, 2, 16, elected[SBR_FRAME_CLASS],
-                               elected[SBR_NUM_ENV], elected[SBR_NUM_NOISE], res, SBR_MAX_ENVELOPES, elected[SBR_VAR_BORD_0],
-                               elected[SBR_VAR_BORD_1], leading, SBR_MAX_REL_BORD, elected[SBR_NUM_REL_0], backward,
-                               SBR_MAX_REL_BORD, elected[SBR_NUM_REL_1], elected[SBR_POINTER], energies, SBR_MAX_ENERGIES,
-                               &count);
+                               elected[SBR_NUM_ENV], elected[SBR_NUM_NOISE], res, SBR_MAX_ENVELOPES,
+                               (uint8_t)elected[SBR_VAR_BORD_0], (uint8_t)elected[SBR_VAR_BORD_1], leading, SBR_MAX_REL_BORD,
+                               elected[SBR_NUM_REL_0], backward, SBR_MAX_REL_BORD, elected[SBR_NUM_REL_1],
+                               (uint8_t)elected[SBR_POINTER], energies, SBR_MAX_ENERGIES, &count);
     if (r != 0)
         return refused("energies", r);
     printf("elected: %s, %" PRIu32 " envelopes, %s; energies", CLASSES[elected[SBR_FRAME_CLASS]], elected[SBR_NUM_ENV],

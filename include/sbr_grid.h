@@ -5,7 +5,8 @@
  * Link with the static library that `rt staticlib sbr_c` makes (target/staticlib/libsbr_c.a).
  *
  * Every call answers 0 for a full result, or the number of a refusal (SBR_REFUSED_..). A refused call leaves everything that was
- * lent to it as it was. Any number may be handed in. What the caller answers for: a pointer is valid for the length or the fixed
+ * lent to it as it was. Any number may be handed in (border bytes and pointers are bytes: C cuts a larger number before the call
+ * sees it). What the caller answers for: a pointer is valid for the length or the fixed
  * size beside it (a range of length 0 needs a pointer that is not null), and the ranges lent to one call do not overlap.
  *
  * A range is a pointer and a length. Bit positions count from the first bit of a range, most significant bit of a byte first.
@@ -66,7 +67,7 @@ enum {
 
 /*
  * Writes sbr_grid() of a record at a bit position and moves the position past it. Every other bit is kept.
- * Refused by 5, then 4.
+ * Refused by 5 (a class above 3, a flag above 1, a range shorter than its count, a record that sbr_grid() can't carry), then 4.
  *
  * bytes, bytes_len          where the bits go
  * position                  bit position; moved past the last bit written
@@ -75,30 +76,37 @@ enum {
  * freq_res, freq_res_len    a byte for each envelope: 1 for high resolution, 0 for low; more are unread
  * var_bord_0, var_bord_1    border bytes, 0 to 3 (also the one that the class does not send)
  * rel_bord_0, .._len        stored relative lengths of the leading side, 0 to 3 each (r means 2 r + 2 slots); more are unread
- * num_rel_0                 how many of them are in use
+ * num_rel_0                 how many of them are in use, at most 4
  * rel_bord_1, .._len, num_rel_1    the same for the trailing side, the last envelope's first
  * pointer                   bs_pointer, at most num_env
  */
 uint32_t sbr_write_grid(uint8_t *bytes, size_t bytes_len, uint64_t *position, uint32_t frame_class, uint64_t num_env,
-                        const uint8_t *freq_res, size_t freq_res_len, uint32_t var_bord_0, uint32_t var_bord_1,
+                        const uint8_t *freq_res, size_t freq_res_len, uint8_t var_bord_0, uint8_t var_bord_1,
                         const uint8_t *rel_bord_0, size_t rel_bord_0_len, uint64_t num_rel_0, const uint8_t *rel_bord_1,
-                        size_t rel_bord_1_len, uint64_t num_rel_1, uint32_t pointer);
+                        size_t rel_bord_1_len, uint64_t num_rel_1, uint8_t pointer);
 
 /*
- * The time grid of a record. Refused by 1, then 5 (a class above 3, a border or a pointer above 255, a list shorter than its
- * count), then 6.
+ * The time grid of a record, also of one that can't be written. Refused by 1, then 5 (a class above 3, a range shorter than its
+ * count), then 6. VARFIX and VARVAR use the leading border byte and list (0), FIXVAR and VARVAR the trailing ones (1).
  *
- * num_time_slots    15 or 16
- * num_noise         1 for one envelope, 2 for more
- * t_e               num_env + 1 borders, in slots; the other places are 0
- * t_q               num_noise + 1 noise borders; the other places are 0
- * l_a               the marked envelope, -1 for none
- * The others are as in sbr_write_grid.
+ * num_time_slots            15 or 16
+ * frame_class               0 to 3
+ * num_env                   envelopes, 1 to 5
+ * num_noise                 1 for one envelope, 2 for more
+ * var_bord_0, var_bord_1    border bytes: 0 to 3, above 3 is refused by 6; one that the class does not use is not looked at
+ * rel_bord_0, .._len        stored relative lengths of the leading side, also above 3 (r means 2 r + 2 slots); more are unread
+ * num_rel_0                 how many of them are in use, at most 4
+ * rel_bord_1, .._len, num_rel_1    the same for the trailing side, the last envelope's first
+ * pointer                   bs_pointer, at most num_env; that of one envelope is not checked, that of FIXFIX is not looked at
+ * t_e                       num_env + 1 borders, in slots; the other places are 0
+ * t_q                       num_noise + 1 noise borders; the other places are 0
+ * l_a                       the marked envelope, -1 for none: num_env + 1 - pointer in FIXVAR and VARVAR (none for pointer 0, past the
+ *                           last envelope for 1), pointer - 1 in VARFIX (none below 2)
  */
 uint32_t sbr_derive_time_grid(uint64_t num_time_slots, uint32_t frame_class, uint64_t num_env, uint64_t num_noise,
-                              uint32_t var_bord_0, uint32_t var_bord_1, const uint8_t *rel_bord_0, size_t rel_bord_0_len,
+                              uint8_t var_bord_0, uint8_t var_bord_1, const uint8_t *rel_bord_0, size_t rel_bord_0_len,
                               uint64_t num_rel_0, const uint8_t *rel_bord_1, size_t rel_bord_1_len, uint64_t num_rel_1,
-                              uint32_t pointer, uint32_t t_e[6], uint32_t t_q[3], int32_t *l_a);
+                              uint8_t pointer, uint32_t t_e[SBR_MAX_BORDERS], uint32_t t_q[SBR_MAX_NOISE_BORDERS], int32_t *l_a);
 
 /*
  * Reads the frame at a bit position. Refused by 1, then 7 or 8 as fields come, then 6, then 9.
@@ -114,8 +122,9 @@ uint32_t sbr_derive_time_grid(uint64_t num_time_slots, uint32_t frame_class, uin
  * t_e, t_q, l_a       the time grid, as in sbr_derive_time_grid
  */
 uint32_t sbr_read_grid(const uint8_t *bytes, size_t bytes_len, uint64_t num_time_slots, uint64_t *position, int32_t *border,
-                       uint32_t numbers[9], uint8_t freq_res[5], uint8_t rel_bord_0[4], uint8_t rel_bord_1[4],
-                       uint32_t t_e[6], uint32_t t_q[3], int32_t *l_a);
+                       uint32_t numbers[SBR_NUMBERS], uint8_t freq_res[SBR_MAX_ENVELOPES], uint8_t rel_bord_0[SBR_MAX_REL_BORD],
+                       uint8_t rel_bord_1[SBR_MAX_REL_BORD], uint32_t t_e[SBR_MAX_BORDERS],
+                       uint32_t t_q[SBR_MAX_NOISE_BORDERS], int32_t *l_a);
 
 /*
  * Elects the grid of a frame from its samples. Refused by 1, then 5 (variable_borders above 1), then 3, then 2.
@@ -132,23 +141,25 @@ uint32_t sbr_read_grid(const uint8_t *bytes, size_t bytes_len, uint64_t num_time
  */
 uint32_t sbr_elect_grid(const double *samples, size_t samples_len, const uint8_t *high, size_t high_len, const uint8_t *low,
                         size_t low_len, int32_t previous_border, uint32_t variable_borders, uint64_t num_time_slots,
-                        uint32_t *transient, uint32_t numbers[9], uint8_t freq_res[5], uint8_t rel_bord_0[4],
-                        uint8_t rel_bord_1[4]);
+                        uint32_t *transient, uint32_t numbers[SBR_NUMBERS], uint8_t freq_res[SBR_MAX_ENVELOPES],
+                        uint8_t rel_bord_0[SBR_MAX_REL_BORD], uint8_t rel_bord_1[SBR_MAX_REL_BORD]);
 
 /*
  * The energies of a record's envelopes over the samples: a row for each envelope, first to last, with a mean for each band of the
- * table of its resolution, lowest first; the rows one after another. Refused by 1, then 5 (a record that can't be formed), 3, 2, 6, 4.
+ * table of its resolution, lowest first; the rows one after another.
+ * Refused by 1, then 5 (a class above 3, a flag above 1, a range shorter than its count), 3, 2, 6, 4.
  *
- * out, out_len    where the rows go; numbers past them are kept
- * count           how many numbers the rows hold
- * The others are as in sbr_elect_grid, sbr_derive_time_grid and sbr_write_grid.
+ * freq_res, freq_res_len    a byte for each envelope: 1 for high resolution, 0 for low; more are unread
+ * out, out_len              where the rows go; numbers past them are kept
+ * count                     how many numbers the rows hold
+ * The samples and tables are as in sbr_elect_grid, the others as in sbr_derive_time_grid.
  */
 uint32_t sbr_estimate_envelopes(const double *samples, size_t samples_len, const uint8_t *high, size_t high_len,
                                 const uint8_t *low, size_t low_len, uint64_t num_time_slots, uint32_t frame_class,
                                 uint64_t num_env, uint64_t num_noise, const uint8_t *freq_res, size_t freq_res_len,
-                                uint32_t var_bord_0, uint32_t var_bord_1, const uint8_t *rel_bord_0, size_t rel_bord_0_len,
+                                uint8_t var_bord_0, uint8_t var_bord_1, const uint8_t *rel_bord_0, size_t rel_bord_0_len,
                                 uint64_t num_rel_0, const uint8_t *rel_bord_1, size_t rel_bord_1_len, uint64_t num_rel_1,
-                                uint32_t pointer, double *out, size_t out_len, uint64_t *count);
+                                uint8_t pointer, double *out, size_t out_len, uint64_t *count);
 
 /*
  * A transmitter's turn: elects the grid of a frame from its samples, takes its time grid, writes it at the bit position, and moves position
@@ -159,8 +170,10 @@ uint32_t sbr_estimate_envelopes(const double *samples, size_t samples_len, const
  */
 uint32_t sbr_send_frame(const double *samples, size_t samples_len, const uint8_t *high, size_t high_len, const uint8_t *low,
                         size_t low_len, uint32_t variable_borders, uint64_t num_time_slots, uint8_t *bytes, size_t bytes_len,
-                        uint64_t *position, int32_t *border, uint32_t *transient, uint32_t numbers[9], uint8_t freq_res[5],
-                        uint8_t rel_bord_0[4], uint8_t rel_bord_1[4], uint32_t t_e[6], uint32_t t_q[3], int32_t *l_a);
+                        uint64_t *position, int32_t *border, uint32_t *transient, uint32_t numbers[SBR_NUMBERS],
+                        uint8_t freq_res[SBR_MAX_ENVELOPES], uint8_t rel_bord_0[SBR_MAX_REL_BORD],
+                        uint8_t rel_bord_1[SBR_MAX_REL_BORD], uint32_t t_e[SBR_MAX_BORDERS],
+                        uint32_t t_q[SBR_MAX_NOISE_BORDERS], int32_t *l_a);
 
 #ifdef __cplusplus
 }

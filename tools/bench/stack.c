@@ -32,15 +32,15 @@ static void elect(void)
 
 static void derive(void)
 {
-    result = sbr_derive_time_grid(slots, numbers[0], numbers[1], numbers[2], numbers[3], numbers[4], rel_0, 4, numbers[5], rel_1, 4, numbers[6],
-                                  numbers[7], t_e, t_q, &l_a);
+    result = sbr_derive_time_grid(slots, numbers[0], numbers[1], numbers[2], (uint8_t)numbers[3], (uint8_t)numbers[4], rel_0, 4,
+                                  numbers[5], rel_1, 4, numbers[6], (uint8_t)numbers[7], t_e, t_q, &l_a);
 }
 
 static void write_it(void)
 {
     position = 3;
-    result = sbr_write_grid(bytes, BYTES, &position, numbers[0], numbers[1], freq_res, 5, numbers[3], numbers[4], rel_0, 4, numbers[5], rel_1, 4,
-                            numbers[6], numbers[7]);
+    result = sbr_write_grid(bytes, BYTES, &position, numbers[0], numbers[1], freq_res, 5, (uint8_t)numbers[3], (uint8_t)numbers[4],
+                            rel_0, 4, numbers[5], rel_1, 4, numbers[6], (uint8_t)numbers[7]);
 }
 
 static void read_it(void)
@@ -54,8 +54,8 @@ static void read_it(void)
 static void estimate(void)
 {
     result = sbr_estimate_envelopes(samples, SBR_SAMPLES_16, high, sizeof high, low, sizeof low, slots, numbers[0], numbers[1], numbers[2], freq_res,
-                                    5, numbers[3], numbers[4], rel_0, 4, numbers[5], rel_1, 4, numbers[6], numbers[7], energies,
-                                    SBR_MAX_ENERGIES, &count);
+                                    5, (uint8_t)numbers[3], (uint8_t)numbers[4], rel_0, 4, numbers[5], rel_1, 4, numbers[6],
+                                    (uint8_t)numbers[7], energies, SBR_MAX_ENERGIES, &count);
 }
 
 static void send(void)

@@ -18,12 +18,12 @@ pub struct Times {
 
 extern "C" {
     fn sbr_write_grid(
-        bytes: *mut u8, len: usize, position: *mut u64, class: u32, num_env: u64, flags: *const u8, flags_len: usize, b0: u32,
-        b1: u32, rel_0: *const u8, rel_0_len: usize, num_0: u64, rel_1: *const u8, rel_1_len: usize, num_1: u64, pointer: u32,
+        bytes: *mut u8, len: usize, position: *mut u64, class: u32, num_env: u64, flags: *const u8, flags_len: usize, b0: u8,
+        b1: u8, rel_0: *const u8, rel_0_len: usize, num_0: u64, rel_1: *const u8, rel_1_len: usize, num_1: u64, pointer: u8,
     ) -> u32;
     fn sbr_derive_time_grid(
-        slots: u64, class: u32, num_env: u64, noise: u64, b0: u32, b1: u32, rel_0: *const u8, rel_0_len: usize, num_0: u64,
-        rel_1: *const u8, rel_1_len: usize, num_1: u64, pointer: u32, t_e: *mut u32, t_q: *mut u32, l_a: *mut i32,
+        slots: u64, class: u32, num_env: u64, noise: u64, b0: u8, b1: u8, rel_0: *const u8, rel_0_len: usize, num_0: u64,
+        rel_1: *const u8, rel_1_len: usize, num_1: u64, pointer: u8, t_e: *mut u32, t_q: *mut u32, l_a: *mut i32,
     ) -> u32;
     fn sbr_read_grid(
         bytes: *const u8, len: usize, slots: u64, position: *mut u64, border: *mut i32, numbers: *mut u32, flags: *mut u8,
@@ -35,8 +35,8 @@ extern "C" {
     ) -> u32;
     fn sbr_estimate_envelopes(
         samples: *const f64, len: usize, high: *const u8, high_len: usize, low: *const u8, low_len: usize, slots: u64, class: u32,
-        num_env: u64, noise: u64, flags: *const u8, flags_len: usize, b0: u32, b1: u32, rel_0: *const u8, rel_0_len: usize,
-        num_0: u64, rel_1: *const u8, rel_1_len: usize, num_1: u64, pointer: u32, energies: *mut f64, energies_len: usize,
+        num_env: u64, noise: u64, flags: *const u8, flags_len: usize, b0: u8, b1: u8, rel_0: *const u8, rel_0_len: usize,
+        num_0: u64, rel_1: *const u8, rel_1_len: usize, num_1: u64, pointer: u8, energies: *mut f64, energies_len: usize,
         count: *mut u64,
     ) -> u32;
     fn sbr_send_frame(
@@ -46,12 +46,17 @@ extern "C" {
     ) -> u32;
 }
 
+/// A border byte or a pointer.
+fn byte(number: u32) -> u8 {
+    u8::try_from(number).expect("a byte")
+}
+
 pub fn write_grid(bytes: &mut [u8], position: &mut u64, r: &Record) -> u32 {
     let n = r.numbers;
     unsafe {
         sbr_write_grid(
-            bytes.as_mut_ptr(), bytes.len(), position, n[0], n[1] as u64, r.flags.as_ptr(), 5, n[3], n[4], r.rel_0.as_ptr(), 4,
-            n[5] as u64, r.rel_1.as_ptr(), 4, n[6] as u64, n[7],
+            bytes.as_mut_ptr(), bytes.len(), position, n[0], n[1] as u64, r.flags.as_ptr(), 5, byte(n[3]), byte(n[4]),
+            r.rel_0.as_ptr(), 4, n[5] as u64, r.rel_1.as_ptr(), 4, n[6] as u64, byte(n[7]),
         )
     }
 }
@@ -60,8 +65,8 @@ pub fn derive_time_grid(slots: u64, r: &Record, t: &mut Times) -> u32 {
     let n = r.numbers;
     unsafe {
         sbr_derive_time_grid(
-            slots, n[0], n[1] as u64, n[2] as u64, n[3], n[4], r.rel_0.as_ptr(), 4, n[5] as u64, r.rel_1.as_ptr(), 4, n[6] as u64,
-            n[7], t.t_e.as_mut_ptr(), t.t_q.as_mut_ptr(), &mut t.l_a,
+            slots, n[0], n[1] as u64, n[2] as u64, byte(n[3]), byte(n[4]), r.rel_0.as_ptr(), 4, n[5] as u64, r.rel_1.as_ptr(), 4,
+            n[6] as u64, byte(n[7]), t.t_e.as_mut_ptr(), t.t_q.as_mut_ptr(), &mut t.l_a,
         )
     }
 }
@@ -93,8 +98,8 @@ pub fn estimate_envelopes(
     unsafe {
         sbr_estimate_envelopes(
             x.as_ptr(), x.len(), high.as_ptr(), high.len(), low.as_ptr(), low.len(), slots, n[0], n[1] as u64, n[2] as u64,
-            r.flags.as_ptr(), 5, n[3], n[4], r.rel_0.as_ptr(), 4, n[5] as u64, r.rel_1.as_ptr(), 4, n[6] as u64, n[7],
-            energies.as_mut_ptr(), energies.len(), count,
+            r.flags.as_ptr(), 5, byte(n[3]), byte(n[4]), r.rel_0.as_ptr(), 4, n[5] as u64, r.rel_1.as_ptr(), 4, n[6] as u64,
+            byte(n[7]), energies.as_mut_ptr(), energies.len(), count,
         )
     }
 }

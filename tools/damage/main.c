@@ -112,9 +112,9 @@ static uint64_t some_count(uint64_t most)
 }
 
 /* A border byte, half of them 0. */
-static uint32_t some_border(void)
+static uint8_t some_border(void)
 {
-    return one_in(2) ? 0 : one_in(16) ? (uint32_t)next() : (uint32_t)below(4);
+    return one_in(2) ? 0 : one_in(16) ? (uint8_t)next() : (uint8_t)below(4);
 }
 
 /* A record, most of them with small numbers, is written; answers what the call answered. */
@@ -138,8 +138,8 @@ static uint32_t write_some(uint8_t *bytes, size_t length, uint64_t *position, in
         n1 = class == SBR_FIXVAR || class == SBR_VARVAR ? below(4) : 0;
         n = class == SBR_FIXFIX ? 1u << below(3) : n0 + n1 + 1;
     }
-    uint32_t b0 = some_border(), b1 = some_border();
-    uint32_t pointer = one_in(16) ? (uint32_t)next() : (uint32_t)below(n < 6 ? n + 1 : 6);
+    uint8_t b0 = some_border(), b1 = some_border();
+    uint8_t pointer = one_in(16) ? (uint8_t)next() : (uint8_t)below(n < 6 ? n + 1 : 6);
     return sbr_write_grid(bytes, length, position, class, n, freq_res, flags, b0, b1, first, rel_0, n0, second, rel_1, n1, pointer);
 }
 

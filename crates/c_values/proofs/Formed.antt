@@ -12,7 +12,6 @@ use Rattle.sbr_grid.proofs.Laws.{length-first, getD-first}
 use Rattle.c_values.specs.declared.form.Handed.{Handed}
 use Rattle.c_values.specs.declared.form.Formed.{Formed}
 use Rattle.c_values.specs.Handed.{formed}
-use Rattle.c_values.specs.Handed.{Bytes}
 
 -- past the count there is nothing
 pub first-past : {A : Type 0} (d : A) (n i : ℕ) (xs : List A) → n ≤ i → d ≡ getD (first d n xs) i d
@@ -25,7 +24,6 @@ first-short d n i xs h k = rw (getD-first d n i xs h) (sym (List·getD-eq-defaul
 -- all that the test of what was handed in asks for, but that the trailing list has its count
 pub record Passed (h : Handed) (rel0 : List ℕ) : Type 0 where
   pub class : h .«frame_class» ≤ 3
-  pub bytes : Bytes h
   pub leading : h .«num_rel_0» ≤ length rel0
 
 -- the test asks for them
@@ -36,9 +34,7 @@ formed-told h rel0 rel1 e = let p = simp and-eq-true-iff at e in omega (arith, l
 -- and, where they hold, for no more than the trailing list
 pub formed-last : (h : Handed) (rel0 rel1 : List ℕ) → Passed h rel0 → leb (h .«num_rel_1») (length rel1) ≡ formed h rel0 rel1
 unfolding formed
-formed-last h rel0 rel1 f =
-    let b = f .bytes in
-    rw (le-leb _ 3 (f .class), le-leb _ 255 (b .bord0), le-leb _ 255 (b .bord1), le-leb _ 255 (b .pointer), le-leb _ _ (f .leading))
+formed-last h rel0 rel1 f = rw (le-leb _ 3 (f .class), le-leb _ _ (f .leading))
 
 -- nothing formed, and the empty record: there is one such value
 pub none-formed : (r : Formed) → (r .«is_formed» ≡ false) × (r .grid ≡ empty) → r ≡ record { «is_formed» = false; grid = empty }

@@ -7,10 +7,7 @@ ghost use mathlib.Core.List.{map, []};
 ghost use lib.Dec.{eqb};
 ghost use lib.ListN.{getD};
 ghost use Rattle.sbr_grid.specs.Grid.{first, recordOf, empty};
-ghost use Rattle.c_values.specs.Handed.{gridFrom, formed, flagged, formable, formedOf, Bytes};
-
-// Largest border and largest pointer that a record's byte holds.
-const MAX_BYTE: u32 = 255;
+ghost use Rattle.c_values.specs.Handed.{gridFrom, formed, flagged, formable, formedOf};
 
 // Largest flag.
 const MAX_FLAG: u8 = 1;
@@ -20,27 +17,18 @@ pub struct Handed {
     pub frame_class: u32,
     pub num_env: u64,
     pub num_noise: u64,
-    pub var_bord_0: u32,
-    pub var_bord_1: u32,
+    pub var_bord_0: u8,
+    pub var_bord_1: u8,
     pub num_rel_0: u64,
     pub num_rel_1: u64,
-    pub pointer: u32,
+    pub pointer: u8,
 }
 
-// Class, borders, pointer and lists can be formed.
+// Class and lists can be formed.
 fn is_formed(h: Handed, rel_bord_0: &[u8], rel_bord_1: &[u8]) -> bool
     ensures { λ r. ⌜ r ≡ formed h (now («rel_bord_0» .entry)) (now («rel_bord_1» .entry)) ⌝ }
 {
     if FrameClass::MAX_CODE < h.frame_class {
-        return false;
-    }
-    if MAX_BYTE < h.var_bord_0 {
-        return false;
-    }
-    if MAX_BYTE < h.var_bord_1 {
-        return false;
-    }
-    if MAX_BYTE < h.pointer {
         return false;
     }
     if rel_bord_0.len() < h.num_rel_0 as usize {
@@ -110,7 +98,6 @@ fn flags(range: &[u8], count: usize) -> [bool; SbrGrid::MAX_NUM_ENV]
 
 // The record of what was handed in.
 fn record(h: Handed, freq_res: &[u8], rel_bord_0: &[u8], rel_bord_1: &[u8]) -> SbrGrid
-    requires { ⌜ Bytes h ⌝ }
     ensures { λ r. ⌜ r ≡ recordOf (gridFrom h (now («freq_res» .entry)) (now («rel_bord_0» .entry)) (now («rel_bord_1» .entry))) ⌝ }
 {
     let num_env = h.num_env as usize;
@@ -121,13 +108,13 @@ fn record(h: Handed, freq_res: &[u8], rel_bord_0: &[u8], rel_bord_1: &[u8]) -> S
         num_env,
         num_noise: h.num_noise as usize,
         freq_res: flags(freq_res, num_env),
-        var_bord_0: h.var_bord_0 as u8,
-        var_bord_1: h.var_bord_1 as u8,
+        var_bord_0: h.var_bord_0,
+        var_bord_1: h.var_bord_1,
         rel_bord_0: entries(rel_bord_0, num_rel_0),
         num_rel_0,
         rel_bord_1: entries(rel_bord_1, num_rel_1),
         num_rel_1,
-        pointer: h.pointer as u8,
+        pointer: h.pointer,
         amp_res_override: false,
     }
 }

@@ -4,7 +4,7 @@ use mathlib.Core.Path.{_≡_, sym, _∙_}
 use mathlib.Core.Bool.{true}
 use borrow.Author.Tests.{not-true, not-false}
 use Rattle.c_values.specs.Handed.{formed}
-use Rattle.c_values.proofs.Formed.{formed-told, none-formed}
+use Rattle.c_values.proofs.Formed.{none-formed}
 use Rattle.c_values.proofs.form.form_borders.Statement.{statement}
 use Rattle.c_values.proofs.form.form_borders.Tie as tie
 
@@ -25,7 +25,7 @@ slice-aggregate-record : tie.Need-slice-aggregate-record
 slice-aggregate-record c = search needs
 
 record-requires : tie.Need-record-requires
-record-requires c κs = formed-told _ _ _ (formed-so (c .before)) .bytes
+record-requires c κs = search needs
 
 returns-2 : tie.Need-returns-2
 returns-2 c = rw (formed-so (c .before .before), c .«record» .ensures)

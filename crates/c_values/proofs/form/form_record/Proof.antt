@@ -4,7 +4,7 @@ use mathlib.Core.Path.{_≡_, sym, _∙_}
 use mathlib.Core.Bool.{true}
 use borrow.Author.Tests.{not-true, not-false}
 use Rattle.c_values.specs.Handed.{formed, flagged}
-use Rattle.c_values.proofs.Formed.{formed-told, none-formed}
+use Rattle.c_values.proofs.Formed.{none-formed}
 use Rattle.c_values.proofs.form.form_record.Statement.{statement}
 use Rattle.c_values.proofs.form.form_record.Tie as tie
 
@@ -36,7 +36,7 @@ returns-2 c =
     rw (formed-so (b .before), sym (b .is-flagged .ensures) ∙ not-true _ (c .before .if2 .taken)) (none-formed _ (c .unformed2 .ensures))
 
 record-requires : tie.Need-record-requires
-record-requires c κs = formed-told _ _ _ (formed-so (c .before .before)) .bytes
+record-requires c κs = search needs
 
 returns-3 : tie.Need-returns-3
 returns-3 c = let e = c .before in rw (formed-so (e .before .before), flags-so e, c .«record» .ensures)

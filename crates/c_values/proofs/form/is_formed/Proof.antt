@@ -12,16 +12,7 @@ returns-2 : tie.Need-returns-2
 returns-2 c = untrue _ (λ t. omega (arith, formed-told _ _ _ t))
 
 returns-3 : tie.Need-returns-3
-returns-3 c = untrue _ (λ t. omega (arith, formed-told _ _ _ t))
-
-returns-4 : tie.Need-returns-4
-returns-4 c = untrue _ (λ t. omega (arith, formed-told _ _ _ t))
-
-returns-5 : tie.Need-returns-5
-returns-5 c = untrue _ (λ t. omega (arith, formed-told _ _ _ t))
-
-returns-6 : tie.Need-returns-6
-returns-6 c = formed-last _ _ _ (omega arith)
+returns-3 c = formed-last _ _ _ (omega arith)
 
 pub is-formed-spec : {M : Type 1} → statement M
-is-formed-spec = tie.close (tie.spec returns returns-2 returns-3 returns-4 returns-5 returns-6)
+is-formed-spec = tie.close (tie.spec returns returns-2 returns-3)

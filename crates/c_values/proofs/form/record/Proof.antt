@@ -11,26 +11,16 @@ from-bits-requires c κs = search needs
 flags-requires : tie.Need-flags-requires
 flags-requires c κs = search needs
 
-cast-t11 : tie.Need-cast-t11
-cast-t11 c = search needs
-
-cast-t12 : tie.Need-cast-t12
-cast-t12 c = search needs
-
 entries-requires : tie.Need-entries-requires
 entries-requires c κs = search needs
 
 entries-requires-2 : tie.Need-entries-requires-2
 entries-requires-2 c κs = search needs
 
-cast-t15 : tie.Need-cast-t15
-cast-t15 c = search needs
-
 returns : tie.Need-returns
 returns c =
-    let e = c .before .before in
-    let f = e .before .before .before in
-    rw (f .before .from-bits .ensures, f .flags .ensures, e .entries .ensures, c .before .entries2 .ensures)
+    let f = c .before .before in
+    rw (f .before .from-bits .ensures, f .flags .ensures, c .before .entries .ensures, c .entries2 .ensures)
     (simp (length-map, length-first))
 
 pub record-spec : {M : Type 1} → statement M
@@ -39,9 +29,6 @@ record-spec =
     (tie.spec
     from-bits-requires
     flags-requires
-    cast-t11
-    cast-t12
     entries-requires
     entries-requires-2
-    cast-t15
     returns)
