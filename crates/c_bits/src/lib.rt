@@ -1,12 +1,13 @@
 // What the calls of C for writing and time grids do. sbr_c exports them.
 use c_values::form::Handed;
 use sbr_grid::Refusal;
+use sbr_grid::TimeGrid;
 use sbr_writer::Written;
 ghost use Rattle.c_values.specs.Handed.{handed};
 ghost use Rattle.c_values.specs.Given.{Gives, timeOut};
 ghost use Rattle.c_bits.specs.Calls.{writeCall, timeCall, writeOut};
 
-// sbr_grid() of a record is written at a bit position, which is moved past it.
+// Refused by 5 for what can't be formed, then as `sbr_writer::write_grid`.
 pub fn write_grid(
     bytes: &mut [u8],
     position: &mut u64,
@@ -21,7 +22,11 @@ pub fn write_grid(
     num_rel_1: u64,
     pointer: u8,
 ) -> u32
-    ensures { λ r. ⌜ Gives (writeCall (handed «frame_class» «num_env» 0 «var_bord_0» «var_bord_1» «num_rel_0» «num_rel_1» pointer) (now («freq_res» .entry)) (now («rel_bord_0» .entry)) (now («rel_bord_1» .entry)) (now (bytes .entry)) (now (position .entry))) writeOut (now (bytes .entry), now (position .entry)) r (now (bytes .exit), now (position .exit)) ⌝ }
+    ensures { λ r. ⌜ Gives
+        (writeCall (handed «frame_class» «num_env» 0 «var_bord_0» «var_bord_1» «num_rel_0» «num_rel_1» pointer)
+        (now («freq_res» .entry)) (now («rel_bord_0» .entry)) (now («rel_bord_1» .entry)) (now (bytes .entry)) (now (position .entry)))
+        writeOut (now (bytes .entry), now (position .entry))
+        r (now (bytes .exit), now (position .exit)) ⌝ }
 {
     let handed = Handed {
         frame_class,
@@ -47,7 +52,7 @@ pub fn write_grid(
     }
 }
 
-// The borders, noise borders and mark of a record.
+// Refused by 1, by 5 for what can't be formed, then as `sbr_time_grid::derive_time_grid`.
 pub fn derive_time_grid(
     num_time_slots: u64,
     frame_class: u32,
@@ -60,11 +65,15 @@ pub fn derive_time_grid(
     rel_bord_1: &[u8],
     num_rel_1: u64,
     pointer: u8,
-    t_e: &mut [u32; 6],
-    t_q: &mut [u32; 3],
+    t_e: &mut [u32; TimeGrid::MAX_BORDERS],
+    t_q: &mut [u32; TimeGrid::MAX_NOISE_BORDERS],
     l_a: &mut i32,
 ) -> u32
-    ensures { λ r. ⌜ Gives (timeCall «num_time_slots» (handed «frame_class» «num_env» «num_noise» «var_bord_0» «var_bord_1» «num_rel_0» «num_rel_1» pointer) (now («rel_bord_0» .entry)) (now («rel_bord_1» .entry))) timeOut (now («t_e» .entry), now («t_q» .entry), now («l_a» .entry)) r (now («t_e» .exit), now («t_q» .exit), now («l_a» .exit)) ⌝ }
+    ensures { λ r. ⌜ Gives
+        (timeCall «num_time_slots» (handed «frame_class» «num_env» «num_noise» «var_bord_0» «var_bord_1» «num_rel_0» «num_rel_1» pointer)
+        (now («rel_bord_0» .entry)) (now («rel_bord_1» .entry)))
+        timeOut (now («t_e» .entry), now («t_q» .entry), now («l_a» .entry))
+        r (now («t_e» .exit), now («t_q» .exit), now («l_a» .exit)) ⌝ }
 {
     if !sbr_grid::is_slot_count(num_time_slots as usize) {
         return Refusal::SlotCount.number();

@@ -14,7 +14,7 @@ use Rattle.sbr_encoder.specs.declared.Election.{Election}
 use Rattle.sbr_encoder.specs.Election.{Elected, elect, electionOf}
 use Rattle.sbr_encoder.specs.Electable.{Electable}
 use Rattle.sbr_encoder.proofs.EveryElection.{every-election}
-use Rattle.c_values.specs.Given.{codeOf, Few}
+use Rattle.c_values.specs.Given.{codeOf, RecordGiven, Few}
 use Rattle.c_values.proofs.Answers.{has-answered, Out, handed-out, RecordAt, shown, shown-record}
 use Rattle.c_elect.specs.Elections.{electionOut}
 use Rattle.c_read.proofs.Readings.{few-of}
@@ -28,7 +28,7 @@ sent-clear n lead g s =
     ap (λ x. x .0) i
 
 -- what a program gives of an election
-abbrev given : Election → ℕ × (List ℕ × List ℕ × List ℕ × List ℕ)
+abbrev given : Election → ℕ × RecordGiven
 given e = (bitN (e .transient), shown (e .grid))
 
 -- that is the whole of it

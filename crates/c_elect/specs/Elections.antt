@@ -7,7 +7,7 @@ use lib.Ieee.{Float}
 use Rattle.bits.specs.Bits.{bitN}
 use Rattle.sbr_grid.specs.Refusals.{Outcome}
 use Rattle.sbr_encoder.specs.Election.{Elected, elect}
-use Rattle.c_values.specs.Given.{recordOut}
+use Rattle.c_values.specs.Given.{RecordGiven, recordOut}
 use Rattle.c_bits.specs.Calls.{slotted}
 
 -- an election: 1, 5 for a switch that is neither 0 nor 1, then as `elect`
@@ -15,5 +15,5 @@ abbrev pub electCall : ℕ → List ℕ → List ℕ → List Float → ℤ → 
 electCall n high low x b switch = slotted n (leb switch 1) (elect n high low x b (eqb switch 1))
 
 -- an election: whether the frame has an onset, and its record
-abbrev pub electionOut : Elected → ℕ × (List ℕ × List ℕ × List ℕ × List ℕ)
+abbrev pub electionOut : Elected → ℕ × RecordGiven
 electionOut e = (bitN (e .transient), recordOut (e .grid))

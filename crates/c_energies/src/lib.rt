@@ -7,7 +7,7 @@ ghost use Rattle.c_values.specs.Handed.{handed};
 ghost use Rattle.c_values.specs.Given.{Gives};
 ghost use Rattle.c_energies.specs.Energies.{energyCall, energyOut};
 
-// The energies of a record's envelopes, and how many numbers they are.
+// Refused by 1, by 5 for what can't be formed, then as `sbr_envelopes::estimate_envelopes`.
 pub fn estimate_envelopes(
     samples: &[f64],
     high: &[u8],
@@ -27,7 +27,12 @@ pub fn estimate_envelopes(
     out: &mut [f64],
     count: &mut u64,
 ) -> u32
-    ensures { λ r. ⌜ Gives (energyCall «num_time_slots» (now (high .entry)) (now (low .entry)) (now (samples .entry)) (handed «frame_class» «num_env» «num_noise» «var_bord_0» «var_bord_1» «num_rel_0» «num_rel_1» pointer) (now («freq_res» .entry)) (now («rel_bord_0» .entry)) (now («rel_bord_1» .entry)) (length (now (out .entry)))) (energyOut (now (out .entry))) (now (out .entry), now (count .entry)) r (now (out .exit), now (count .exit)) ⌝ }
+    ensures { λ r. ⌜ Gives
+        (energyCall «num_time_slots» (now (high .entry)) (now (low .entry)) (now (samples .entry))
+        (handed «frame_class» «num_env» «num_noise» «var_bord_0» «var_bord_1» «num_rel_0» «num_rel_1» pointer)
+        (now («freq_res» .entry)) (now («rel_bord_0» .entry)) (now («rel_bord_1» .entry)) (length (now (out .entry))))
+        (energyOut (now (out .entry))) (now (out .entry), now (count .entry))
+        r (now (out .exit), now (count .exit)) ⌝ }
 {
     if !sbr_grid::is_slot_count(num_time_slots as usize) {
         return Refusal::SlotCount.number();

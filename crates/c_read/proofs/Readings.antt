@@ -16,7 +16,7 @@ use Rattle.sbr_reader.specs.declared.Carried.{Carried}
 use Rattle.sbr_reader.specs.Read.{Accepted, readGrid, frameReadOf}
 use Rattle.sbr_parse.specs.Inverse.{cleared}
 use Rattle.sbr_reader.proofs.Frames.{frame-writes}
-use Rattle.c_values.specs.Given.{codeOf, timeOut, Few}
+use Rattle.c_values.specs.Given.{codeOf, RecordGiven, TimesGiven, timeOut, Few}
 use Rattle.c_values.proofs.Answers.{has-answered, Out, handed-out, TimesAt, RecordAt, shown, shown-record}
 use Rattle.c_read.specs.Frames.{frameOut}
 
@@ -36,7 +36,7 @@ few-of g fits clear =
     record { env = t .most; noise = rw (ap (λ x. x .numNoise) clear) at (noise-few g); rel0 = t .rel0; rel1 = t .rel1 }
 
 -- what a program gives of a reading
-abbrev given : FrameRead → ℕ × ℤ × (List ℕ × List ℕ × List ℕ × List ℕ) × (List ℕ × List ℕ × ℤ)
+abbrev given : FrameRead → ℕ × ℤ × RecordGiven × TimesGiven
 given r = (r .position, r .carried .border, shown (r .grid), (r .time .«t_e», r .time .«t_q», r .time .«l_a»))
 
 -- that is the whole frame

@@ -1,10 +1,9 @@
 -- What C is given of a frame that is read.
-use mathlib.Core.List.{List}
 use Prim.Native.Nat.{ℕ}
 use lib.IntN.{ℤ, pos}
 use Rattle.sbr_reader.specs.Read.{Accepted}
-use Rattle.c_values.specs.Given.{recordOut, timeOut}
+use Rattle.c_values.specs.Given.{RecordGiven, TimesGiven, recordOut, timeOut}
 
 -- a frame: the position after it, its last border, its record and its time grid
-abbrev pub frameOut : Accepted → ℕ × ℤ × (List ℕ × List ℕ × List ℕ × List ℕ) × (List ℕ × List ℕ × ℤ)
+abbrev pub frameOut : Accepted → ℕ × ℤ × RecordGiven × TimesGiven
 frameOut f = (f .position, pos (f .border), recordOut (f .grid), timeOut (f .time))

@@ -1,24 +1,40 @@
 // What the call of C for reading does. sbr_c exports it.
+use c_values::give::NUMBERS;
+use sbr_grid::SbrGrid;
+use sbr_grid::TimeGrid;
 use sbr_reader::Carried;
 ghost use Rattle.sbr_reader.specs.Read.{readGrid};
 ghost use Rattle.c_values.specs.Given.{Gives};
 ghost use Rattle.c_read.specs.Frames.{frameOut};
 
-// The frame at a bit position: record, time grid, the position after it and its last border.
+// Refused as `sbr_reader::read_grid`. Border in: where the frame before ended; out: where this one ends.
 pub fn read_grid(
     bytes: &[u8],
     num_time_slots: u64,
     position: &mut u64,
     border: &mut i32,
-    numbers: &mut [u32; 9],
-    freq_res: &mut [u8; 5],
-    rel_bord_0: &mut [u8; 4],
-    rel_bord_1: &mut [u8; 4],
-    t_e: &mut [u32; 6],
-    t_q: &mut [u32; 3],
+    numbers: &mut [u32; NUMBERS],
+    freq_res: &mut [u8; SbrGrid::MAX_NUM_ENV],
+    rel_bord_0: &mut [u8; SbrGrid::MAX_REL_BORD],
+    rel_bord_1: &mut [u8; SbrGrid::MAX_REL_BORD],
+    t_e: &mut [u32; TimeGrid::MAX_BORDERS],
+    t_q: &mut [u32; TimeGrid::MAX_NOISE_BORDERS],
     l_a: &mut i32,
 ) -> u32
-    ensures { λ r. ⌜ Gives (readGrid (now (bytes .entry)) (now (position .entry)) «num_time_slots» (now (border .entry))) frameOut (now (position .entry), now (border .entry), (now (numbers .entry), now («freq_res» .entry), now («rel_bord_0» .entry), now («rel_bord_1» .entry)), (now («t_e» .entry), now («t_q» .entry), now («l_a» .entry))) r (now (position .exit), now (border .exit), (now (numbers .exit), now («freq_res» .exit), now («rel_bord_0» .exit), now («rel_bord_1» .exit)), (now («t_e» .exit), now («t_q» .exit), now («l_a» .exit))) ⌝ }
+    ensures { λ r. ⌜ Gives
+        (readGrid (now (bytes .entry)) (now (position .entry)) «num_time_slots» (now (border .entry)))
+        frameOut (
+          now (position .entry),
+          now (border .entry),
+          (now (numbers .entry), now («freq_res» .entry), now («rel_bord_0» .entry), now («rel_bord_1» .entry)),
+          (now («t_e» .entry), now («t_q» .entry), now («l_a» .entry)),
+        )
+        r (
+          now (position .exit),
+          now (border .exit),
+          (now (numbers .exit), now («freq_res» .exit), now («rel_bord_0» .exit), now («rel_bord_1» .exit)),
+          (now («t_e» .exit), now («t_q» .exit), now («l_a» .exit)),
+        ) ⌝ }
 {
     let at = *position as usize;
     let before = *border;

@@ -13,14 +13,13 @@ use Rattle.sbr_run.specs.declared.Sending.{Sending}
 use Rattle.sbr_run.specs.Run.{Turn, Turned, turn, lastBorder}
 use Rattle.sbr_run.specs.Place.{sendingOf, bytesLeft}
 use Rattle.sbr_run.proofs.OneFrame.{calls}
-use Rattle.c_values.specs.Given.{codeOf, timeOut}
-use Rattle.c_values.specs.Given.{Few}
+use Rattle.c_values.specs.Given.{codeOf, RecordGiven, TimesGiven, timeOut, Few}
 use Rattle.c_values.proofs.Answers.{has-answered, has-refused, Out, handed-out, TimesAt, RecordAt, shown, shown-record}
 use Rattle.c_send.specs.Turns.{sendOut}
 use Rattle.c_elect.proofs.Given.{elected-few}
 
 -- what a program gives of a turn and the bytes that it leaves
-abbrev given : List ℕ × Sending → List ℕ × ℕ × ℤ × ℕ × (List ℕ × List ℕ × List ℕ × List ℕ) × (List ℕ × List ℕ × ℤ)
+abbrev given : List ℕ × Sending → List ℕ × ℕ × ℤ × ℕ × RecordGiven × TimesGiven
 given d =
     let s = d .1 in
     (d .0, s .place .position, s .place .carried .border, bitN (s .transient), shown (s .grid), (s .time .«t_e», s .time .«t_q», s .time .«l_a»))

@@ -8,7 +8,7 @@ use Rattle.bits.specs.Bits.{bitN}
 use Rattle.sbr_grid.specs.Refusals.{Outcome}
 use Rattle.sbr_run.specs.Run.{Turned, turn, lastBorder}
 use Rattle.sbr_run.specs.Place.{turnFrom}
-use Rattle.c_values.specs.Given.{recordOut, timeOut}
+use Rattle.c_values.specs.Given.{RecordGiven, TimesGiven, recordOut, timeOut}
 use Rattle.c_bits.specs.Calls.{slotted}
 
 -- a turn: 1, 5 for a switch that is neither 0 nor 1, then as `turn`
@@ -18,7 +18,7 @@ sendCall n high low x switch l p b =
     (turn (turnFrom n high low x (eqb switch 1) l (record { carried = record { border = b }; position = p })))
 
 -- a turn that sends a frame: bytes, position and border after it, whether it has an onset, its record and its time grid
-abbrev pub sendOut : Turned → List ℕ × ℕ × ℤ × ℕ × (List ℕ × List ℕ × List ℕ × List ℕ) × (List ℕ × List ℕ × ℤ)
+abbrev pub sendOut : Turned → List ℕ × ℕ × ℤ × ℕ × RecordGiven × TimesGiven
 sendOut a = (
   a .wrote .bytes,
   a .wrote .position,

@@ -1,11 +1,14 @@
 // What the call of C for a turn does. sbr_c exports it.
+use c_values::give::NUMBERS;
 use sbr_grid::Refusal;
+use sbr_grid::SbrGrid;
+use sbr_grid::TimeGrid;
 use sbr_reader::Carried;
 use sbr_run::Place;
 ghost use Rattle.c_values.specs.Given.{Gives};
 ghost use Rattle.c_send.specs.Turns.{sendCall, sendOut};
 
-// A transmitter's turn: elects the grid of a frame, writes it at the bit position and moves position and border on.
+// Refused by 1, by 5 for a switch above 1, then as `sbr_run::send_frame`.
 pub fn send_frame(
     samples: &[f64],
     high: &[u8],
@@ -16,15 +19,33 @@ pub fn send_frame(
     position: &mut u64,
     border: &mut i32,
     transient: &mut u32,
-    numbers: &mut [u32; 9],
-    freq_res: &mut [u8; 5],
-    rel_bord_0: &mut [u8; 4],
-    rel_bord_1: &mut [u8; 4],
-    t_e: &mut [u32; 6],
-    t_q: &mut [u32; 3],
+    numbers: &mut [u32; NUMBERS],
+    freq_res: &mut [u8; SbrGrid::MAX_NUM_ENV],
+    rel_bord_0: &mut [u8; SbrGrid::MAX_REL_BORD],
+    rel_bord_1: &mut [u8; SbrGrid::MAX_REL_BORD],
+    t_e: &mut [u32; TimeGrid::MAX_BORDERS],
+    t_q: &mut [u32; TimeGrid::MAX_NOISE_BORDERS],
     l_a: &mut i32,
 ) -> u32
-    ensures { λ r. ⌜ Gives (sendCall «num_time_slots» (now (high .entry)) (now (low .entry)) (now (samples .entry)) «variable_borders» (now (bytes .entry)) (now (position .entry)) (now (border .entry))) sendOut (now (bytes .entry), now (position .entry), now (border .entry), now (transient .entry), (now (numbers .entry), now («freq_res» .entry), now («rel_bord_0» .entry), now («rel_bord_1» .entry)), (now («t_e» .entry), now («t_q» .entry), now («l_a» .entry))) r (now (bytes .exit), now (position .exit), now (border .exit), now (transient .exit), (now (numbers .exit), now («freq_res» .exit), now («rel_bord_0» .exit), now («rel_bord_1» .exit)), (now («t_e» .exit), now («t_q» .exit), now («l_a» .exit))) ⌝ }
+    ensures { λ r. ⌜ Gives
+        (sendCall «num_time_slots» (now (high .entry)) (now (low .entry)) (now (samples .entry)) «variable_borders»
+        (now (bytes .entry)) (now (position .entry)) (now (border .entry)))
+        sendOut (
+          now (bytes .entry),
+          now (position .entry),
+          now (border .entry),
+          now (transient .entry),
+          (now (numbers .entry), now («freq_res» .entry), now («rel_bord_0» .entry), now («rel_bord_1» .entry)),
+          (now («t_e» .entry), now («t_q» .entry), now («l_a» .entry)),
+        )
+        r (
+          now (bytes .exit),
+          now (position .exit),
+          now (border .exit),
+          now (transient .exit),
+          (now (numbers .exit), now («freq_res» .exit), now («rel_bord_0» .exit), now («rel_bord_1» .exit)),
+          (now («t_e» .exit), now («t_q» .exit), now («l_a» .exit)),
+        ) ⌝ }
 {
     if !sbr_grid::is_slot_count(num_time_slots as usize) {
         return Refusal::SlotCount.number();

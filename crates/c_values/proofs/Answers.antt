@@ -13,7 +13,7 @@ use Rattle.sbr_grid.specs.Refusals.{Outcome, answered, refused, numberOf, answe
 use Rattle.sbr_grid.specs.Grid.{first, viewOf, recordOf, Grid}
 use Rattle.sbr_grid.proofs.Laws.{lengths}
 use Rattle.sbr_grid.specs.declared.TimeGrid.{TimeGrid}
-use Rattle.c_values.specs.Given.{Gives, codeOf, numbersOf, recordOut}
+use Rattle.c_values.specs.Given.{Gives, codeOf, numbersOf, RecordGiven, recordOut}
 
 -- no refusal has the number 0
 numbered : (e : Refusal) → numberOf e ≡ 0 → ⊥
@@ -78,7 +78,7 @@ first-again d (suc n) [] = ap {B = List _} (λ t. d ∷ t) (first-again d n [])
 first-again d (suc n) (x ∷ xs) = ap {B = List _} (λ t. x ∷ t) (first-again d n xs)
 
 -- what a program gives of a record
-abbrev pub shown : SbrGrid → List ℕ × List ℕ × List ℕ × List ℕ
+abbrev pub shown : SbrGrid → RecordGiven
 shown g = (numbersOf (viewOf g), map bitN (first false 5 (g .«freq_res»)), g .«rel_bord_0», g .«rel_bord_1»)
 
 -- that is the whole grid

@@ -29,11 +29,17 @@ numbersOf g =
     ∷ length (g .relBord1) ∷ g .pointer ∷ bitN (g .ampOverride) ∷ []
 
 -- a record: its numbers, its flags as bytes (1 for high), its lists; places past a count are 0
-abbrev pub recordOut : Grid → List ℕ × List ℕ × List ℕ × List ℕ
+abbrev pub RecordGiven : Type 0
+RecordGiven = List ℕ × List ℕ × List ℕ × List ℕ
+
+abbrev pub recordOut : Grid → RecordGiven
 recordOut g = (numbersOf g, map bitN (first false 5 (g .freqRes)), first 0 4 (g .relBord0), first 0 4 (g .relBord1))
 
 -- a time grid: its borders, its noise borders, its mark
-abbrev pub timeOut : Times → List ℕ × List ℕ × ℤ
+abbrev pub TimesGiven : Type 0
+TimesGiven = List ℕ × List ℕ × ℤ
+
+abbrev pub timeOut : Times → TimesGiven
 timeOut t = (first 0 6 (t .tE), first 0 3 (t .tQ), t .lA)
 
 -- the counts of a record are those of a frame

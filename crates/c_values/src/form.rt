@@ -9,10 +9,9 @@ ghost use lib.ListN.{getD};
 ghost use Rattle.sbr_grid.specs.Grid.{first, recordOf, empty};
 ghost use Rattle.c_values.specs.Handed.{gridFrom, formed, flagged, formable, formedOf};
 
-// Largest flag.
 const MAX_FLAG: u8 = 1;
 
-// The numbers of a record as C hands them in.
+// The numbers of a record as C hands them in. Class and counts are wider than a record needs: nothing is cut before its test.
 pub struct Handed {
     pub frame_class: u32,
     pub num_env: u64,
@@ -24,7 +23,7 @@ pub struct Handed {
     pub pointer: u8,
 }
 
-// Class and lists can be formed.
+// No class above 3, and no list shorter than its count.
 fn is_formed(h: Handed, rel_bord_0: &[u8], rel_bord_1: &[u8]) -> bool
     ensures { λ r. ⌜ r ≡ formed h (now («rel_bord_0» .entry)) (now («rel_bord_1» .entry)) ⌝ }
 {
@@ -65,7 +64,7 @@ fn entry(range: &[u8], count: usize, i: usize) -> u8
     range[i]
 }
 
-// The first places of a range, as many as the count says.
+// As many bytes of the range as the count says; the places past them are 0.
 fn entries(range: &[u8], count: usize) -> [u8; SbrGrid::MAX_REL_BORD]
     ensures { λ r. ⌜ r ≡ first 0 4 (first 0 count (now (range .entry))) ⌝ }
 {
@@ -83,7 +82,7 @@ fn flag(range: &[u8], count: usize, i: usize) -> bool
     entry(range, count, i) == MAX_FLAG
 }
 
-// The same as flags.
+// The same as flags: high where the byte is 1.
 fn flags(range: &[u8], count: usize) -> [bool; SbrGrid::MAX_NUM_ENV]
     ensures { λ r. ⌜ r ≡ first false 5 (map (λ b. eqb b 1) (first 0 count (now (range .entry)))) ⌝ }
 {
@@ -96,7 +95,7 @@ fn flags(range: &[u8], count: usize) -> [bool; SbrGrid::MAX_NUM_ENV]
     ]
 }
 
-// The record of what was handed in.
+// C hands in no amplitude override, which neither bits nor borders depend on.
 fn record(h: Handed, freq_res: &[u8], rel_bord_0: &[u8], rel_bord_1: &[u8]) -> SbrGrid
     ensures { λ r. ⌜ r ≡ recordOf (gridFrom h (now («freq_res» .entry)) (now («rel_bord_0» .entry)) (now («rel_bord_1» .entry))) ⌝ }
 {
@@ -119,13 +118,12 @@ fn record(h: Handed, freq_res: &[u8], rel_bord_0: &[u8], rel_bord_1: &[u8]) -> S
     }
 }
 
-// The record, where one can be formed.
+// The record, or the empty one where none can be formed.
 pub struct Formed {
     pub is_formed: bool,
     pub grid: SbrGrid,
 }
 
-// Nothing could be formed.
 fn unformed() -> Formed
     ensures { λ r. ⌜ r .«is_formed» ≡ false ⌝ }
     ensures { λ r. ⌜ r .grid ≡ empty ⌝ }
@@ -136,9 +134,11 @@ fn unformed() -> Formed
     }
 }
 
-// The record that was handed in, with its flags.
+// What writing and energies need: the flags must be there, each 0 or 1.
 pub fn form_record(h: Handed, freq_res: &[u8], rel_bord_0: &[u8], rel_bord_1: &[u8]) -> Formed
-    ensures { λ r. ⌜ r ≡ formedOf (formable h (now («freq_res» .entry)) (now («rel_bord_0» .entry)) (now («rel_bord_1» .entry))) (gridFrom h (now («freq_res» .entry)) (now («rel_bord_0» .entry)) (now («rel_bord_1» .entry))) ⌝ }
+    ensures { λ r. ⌜ r ≡ formedOf
+        (formable h (now («freq_res» .entry)) (now («rel_bord_0» .entry)) (now («rel_bord_1» .entry)))
+        (gridFrom h (now («freq_res» .entry)) (now («rel_bord_0» .entry)) (now («rel_bord_1» .entry))) ⌝ }
 {
     if !is_formed(h, rel_bord_0, rel_bord_1) {
         return unformed();
@@ -152,9 +152,11 @@ pub fn form_record(h: Handed, freq_res: &[u8], rel_bord_0: &[u8], rel_bord_1: &[
     }
 }
 
-// The record that was handed in without flags.
+// What a time grid needs: no flags are handed in, and none is set.
 pub fn form_borders(h: Handed, rel_bord_0: &[u8], rel_bord_1: &[u8]) -> Formed
-    ensures { λ r. ⌜ r ≡ formedOf (formed h (now («rel_bord_0» .entry)) (now («rel_bord_1» .entry))) (gridFrom h [] (now («rel_bord_0» .entry)) (now («rel_bord_1» .entry))) ⌝ }
+    ensures { λ r. ⌜ r ≡ formedOf
+        (formed h (now («rel_bord_0» .entry)) (now («rel_bord_1» .entry)))
+        (gridFrom h [] (now («rel_bord_0» .entry)) (now («rel_bord_1» .entry))) ⌝ }
 {
     if !is_formed(h, rel_bord_0, rel_bord_1) {
         return unformed();

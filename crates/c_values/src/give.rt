@@ -10,7 +10,7 @@ ghost use Rattle.sbr_grid.specs.Grid.{first, viewOf};
 ghost use Rattle.c_values.specs.Given.{codeOf, numbersOf, Few};
 
 // How many numbers C is given of a record.
-const NUMBERS: usize = 9;
+pub const NUMBERS: usize = 9;
 
 // What a call answers C: 0, or the number of a refusal.
 pub fn code_of(answer: Answer) -> u32
@@ -28,7 +28,7 @@ fn bit(flag: bool) -> u8
     flag as u8
 }
 
-// The flags of a record as bytes.
+// All places, 1 for high.
 fn flag_bytes(grid: SbrGrid) -> [u8; SbrGrid::MAX_NUM_ENV]
     ensures { λ r. ⌜ r ≡ map bitN (first false 5 (grid .«freq_res»)) ⌝ }
 {
@@ -42,7 +42,7 @@ fn flag_bytes(grid: SbrGrid) -> [u8; SbrGrid::MAX_NUM_ENV]
     ]
 }
 
-// The numbers of a record whose counts are those of a frame.
+// The counts of a frame are small: no cast cuts one.
 fn numbers(grid: SbrGrid) -> [u32; NUMBERS]
     requires { ⌜ Few grid ⌝ }
     ensures { λ r. ⌜ r ≡ numbersOf (viewOf grid) ⌝ }
@@ -61,7 +61,7 @@ fn numbers(grid: SbrGrid) -> [u32; NUMBERS]
     ]
 }
 
-// A record whose counts are those of a frame is given to C.
+// All places of the lists are given; those past a count are 0 in a record that was read or elected.
 pub fn give_record(
     grid: SbrGrid,
     to_numbers: &mut [u32; NUMBERS],
@@ -83,7 +83,6 @@ pub fn give_record(
     *rel_bord_1 = trailing;
 }
 
-// A time grid is given to C.
 pub fn give_times(
     time: TimeGrid,
     t_e: &mut [u32; TimeGrid::MAX_BORDERS],

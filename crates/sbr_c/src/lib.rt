@@ -1,6 +1,9 @@
 // The calls of the C firmware: plain numbers and ranges of bytes, in and out. Each answers 0, or the number of a refusal, and a
 // refused call leaves everything that was lent as it was. What they do stands in c_bits, c_read, c_elect,
 // c_energies and c_send.
+use c_values::give::NUMBERS;
+use sbr_grid::SbrGrid;
+use sbr_grid::TimeGrid;
 ghost use lib.ListN.{length};
 ghost use Rattle.sbr_reader.specs.Read.{readGrid};
 ghost use Rattle.c_values.specs.Handed.{handed};
@@ -27,7 +30,11 @@ pub extern "C" fn sbr_write_grid(
     num_rel_1: u64,
     pointer: u8,
 ) -> u32
-    ensures { λ r. ⌜ Gives (writeCall (handed «frame_class» «num_env» 0 «var_bord_0» «var_bord_1» «num_rel_0» «num_rel_1» pointer) (now («freq_res» .entry)) (now («rel_bord_0» .entry)) (now («rel_bord_1» .entry)) (now (bytes .entry)) (now (position .entry))) writeOut (now (bytes .entry), now (position .entry)) r (now (bytes .exit), now (position .exit)) ⌝ }
+    ensures { λ r. ⌜ Gives
+        (writeCall (handed «frame_class» «num_env» 0 «var_bord_0» «var_bord_1» «num_rel_0» «num_rel_1» pointer)
+        (now («freq_res» .entry)) (now («rel_bord_0» .entry)) (now («rel_bord_1» .entry)) (now (bytes .entry)) (now (position .entry)))
+        writeOut (now (bytes .entry), now (position .entry))
+        r (now (bytes .exit), now (position .exit)) ⌝ }
 {
     c_bits::write_grid(
         bytes,
@@ -59,11 +66,15 @@ pub extern "C" fn sbr_derive_time_grid(
     rel_bord_1: &[u8],
     num_rel_1: u64,
     pointer: u8,
-    t_e: &mut [u32; 6],
-    t_q: &mut [u32; 3],
+    t_e: &mut [u32; TimeGrid::MAX_BORDERS],
+    t_q: &mut [u32; TimeGrid::MAX_NOISE_BORDERS],
     l_a: &mut i32,
 ) -> u32
-    ensures { λ r. ⌜ Gives (timeCall «num_time_slots» (handed «frame_class» «num_env» «num_noise» «var_bord_0» «var_bord_1» «num_rel_0» «num_rel_1» pointer) (now («rel_bord_0» .entry)) (now («rel_bord_1» .entry))) timeOut (now («t_e» .entry), now («t_q» .entry), now («l_a» .entry)) r (now («t_e» .exit), now («t_q» .exit), now («l_a» .exit)) ⌝ }
+    ensures { λ r. ⌜ Gives
+        (timeCall «num_time_slots» (handed «frame_class» «num_env» «num_noise» «var_bord_0» «var_bord_1» «num_rel_0» «num_rel_1» pointer)
+        (now («rel_bord_0» .entry)) (now («rel_bord_1» .entry)))
+        timeOut (now («t_e» .entry), now («t_q» .entry), now («l_a» .entry))
+        r (now («t_e» .exit), now («t_q» .exit), now («l_a» .exit)) ⌝ }
 {
     c_bits::derive_time_grid(
         num_time_slots,
@@ -90,15 +101,28 @@ pub extern "C" fn sbr_read_grid(
     num_time_slots: u64,
     position: &mut u64,
     border: &mut i32,
-    numbers: &mut [u32; 9],
-    freq_res: &mut [u8; 5],
-    rel_bord_0: &mut [u8; 4],
-    rel_bord_1: &mut [u8; 4],
-    t_e: &mut [u32; 6],
-    t_q: &mut [u32; 3],
+    numbers: &mut [u32; NUMBERS],
+    freq_res: &mut [u8; SbrGrid::MAX_NUM_ENV],
+    rel_bord_0: &mut [u8; SbrGrid::MAX_REL_BORD],
+    rel_bord_1: &mut [u8; SbrGrid::MAX_REL_BORD],
+    t_e: &mut [u32; TimeGrid::MAX_BORDERS],
+    t_q: &mut [u32; TimeGrid::MAX_NOISE_BORDERS],
     l_a: &mut i32,
 ) -> u32
-    ensures { λ r. ⌜ Gives (readGrid (now (bytes .entry)) (now (position .entry)) «num_time_slots» (now (border .entry))) frameOut (now (position .entry), now (border .entry), (now (numbers .entry), now («freq_res» .entry), now («rel_bord_0» .entry), now («rel_bord_1» .entry)), (now («t_e» .entry), now («t_q» .entry), now («l_a» .entry))) r (now (position .exit), now (border .exit), (now (numbers .exit), now («freq_res» .exit), now («rel_bord_0» .exit), now («rel_bord_1» .exit)), (now («t_e» .exit), now («t_q» .exit), now («l_a» .exit))) ⌝ }
+    ensures { λ r. ⌜ Gives
+        (readGrid (now (bytes .entry)) (now (position .entry)) «num_time_slots» (now (border .entry)))
+        frameOut (
+          now (position .entry),
+          now (border .entry),
+          (now (numbers .entry), now («freq_res» .entry), now («rel_bord_0» .entry), now («rel_bord_1» .entry)),
+          (now («t_e» .entry), now («t_q» .entry), now («l_a» .entry)),
+        )
+        r (
+          now (position .exit),
+          now (border .exit),
+          (now (numbers .exit), now («freq_res» .exit), now («rel_bord_0» .exit), now («rel_bord_1» .exit)),
+          (now («t_e» .exit), now («t_q» .exit), now («l_a» .exit)),
+        ) ⌝ }
 {
     c_read::read_grid(
         bytes,
@@ -125,12 +149,21 @@ pub extern "C" fn sbr_elect_grid(
     variable_borders: u32,
     num_time_slots: u64,
     transient: &mut u32,
-    numbers: &mut [u32; 9],
-    freq_res: &mut [u8; 5],
-    rel_bord_0: &mut [u8; 4],
-    rel_bord_1: &mut [u8; 4],
+    numbers: &mut [u32; NUMBERS],
+    freq_res: &mut [u8; SbrGrid::MAX_NUM_ENV],
+    rel_bord_0: &mut [u8; SbrGrid::MAX_REL_BORD],
+    rel_bord_1: &mut [u8; SbrGrid::MAX_REL_BORD],
 ) -> u32
-    ensures { λ r. ⌜ Gives (electCall «num_time_slots» (now (high .entry)) (now (low .entry)) (now (samples .entry)) «previous_border» «variable_borders») electionOut (now (transient .entry), (now (numbers .entry), now («freq_res» .entry), now («rel_bord_0» .entry), now («rel_bord_1» .entry))) r (now (transient .exit), (now (numbers .exit), now («freq_res» .exit), now («rel_bord_0» .exit), now («rel_bord_1» .exit))) ⌝ }
+    ensures { λ r. ⌜ Gives
+        (electCall «num_time_slots» (now (high .entry)) (now (low .entry)) (now (samples .entry)) «previous_border» «variable_borders»)
+        electionOut (
+          now (transient .entry),
+          (now (numbers .entry), now («freq_res» .entry), now («rel_bord_0» .entry), now («rel_bord_1» .entry)),
+        )
+        r (
+          now (transient .exit),
+          (now (numbers .exit), now («freq_res» .exit), now («rel_bord_0» .exit), now («rel_bord_1» .exit)),
+        ) ⌝ }
 {
     c_elect::elect_grid(
         samples,
@@ -168,7 +201,12 @@ pub extern "C" fn sbr_estimate_envelopes(
     out: &mut [f64],
     count: &mut u64,
 ) -> u32
-    ensures { λ r. ⌜ Gives (energyCall «num_time_slots» (now (high .entry)) (now (low .entry)) (now (samples .entry)) (handed «frame_class» «num_env» «num_noise» «var_bord_0» «var_bord_1» «num_rel_0» «num_rel_1» pointer) (now («freq_res» .entry)) (now («rel_bord_0» .entry)) (now («rel_bord_1» .entry)) (length (now (out .entry)))) (energyOut (now (out .entry))) (now (out .entry), now (count .entry)) r (now (out .exit), now (count .exit)) ⌝ }
+    ensures { λ r. ⌜ Gives
+        (energyCall «num_time_slots» (now (high .entry)) (now (low .entry)) (now (samples .entry))
+        (handed «frame_class» «num_env» «num_noise» «var_bord_0» «var_bord_1» «num_rel_0» «num_rel_1» pointer)
+        (now («freq_res» .entry)) (now («rel_bord_0» .entry)) (now («rel_bord_1» .entry)) (length (now (out .entry))))
+        (energyOut (now (out .entry))) (now (out .entry), now (count .entry))
+        r (now (out .exit), now (count .exit)) ⌝ }
 {
     c_energies::estimate_envelopes(
         samples,
@@ -203,15 +241,33 @@ pub extern "C" fn sbr_send_frame(
     position: &mut u64,
     border: &mut i32,
     transient: &mut u32,
-    numbers: &mut [u32; 9],
-    freq_res: &mut [u8; 5],
-    rel_bord_0: &mut [u8; 4],
-    rel_bord_1: &mut [u8; 4],
-    t_e: &mut [u32; 6],
-    t_q: &mut [u32; 3],
+    numbers: &mut [u32; NUMBERS],
+    freq_res: &mut [u8; SbrGrid::MAX_NUM_ENV],
+    rel_bord_0: &mut [u8; SbrGrid::MAX_REL_BORD],
+    rel_bord_1: &mut [u8; SbrGrid::MAX_REL_BORD],
+    t_e: &mut [u32; TimeGrid::MAX_BORDERS],
+    t_q: &mut [u32; TimeGrid::MAX_NOISE_BORDERS],
     l_a: &mut i32,
 ) -> u32
-    ensures { λ r. ⌜ Gives (sendCall «num_time_slots» (now (high .entry)) (now (low .entry)) (now (samples .entry)) «variable_borders» (now (bytes .entry)) (now (position .entry)) (now (border .entry))) sendOut (now (bytes .entry), now (position .entry), now (border .entry), now (transient .entry), (now (numbers .entry), now («freq_res» .entry), now («rel_bord_0» .entry), now («rel_bord_1» .entry)), (now («t_e» .entry), now («t_q» .entry), now («l_a» .entry))) r (now (bytes .exit), now (position .exit), now (border .exit), now (transient .exit), (now (numbers .exit), now («freq_res» .exit), now («rel_bord_0» .exit), now («rel_bord_1» .exit)), (now («t_e» .exit), now («t_q» .exit), now («l_a» .exit))) ⌝ }
+    ensures { λ r. ⌜ Gives
+        (sendCall «num_time_slots» (now (high .entry)) (now (low .entry)) (now (samples .entry)) «variable_borders»
+        (now (bytes .entry)) (now (position .entry)) (now (border .entry)))
+        sendOut (
+          now (bytes .entry),
+          now (position .entry),
+          now (border .entry),
+          now (transient .entry),
+          (now (numbers .entry), now («freq_res» .entry), now («rel_bord_0» .entry), now («rel_bord_1» .entry)),
+          (now («t_e» .entry), now («t_q» .entry), now («l_a» .entry)),
+        )
+        r (
+          now (bytes .exit),
+          now (position .exit),
+          now (border .exit),
+          now (transient .exit),
+          (now (numbers .exit), now («freq_res» .exit), now («rel_bord_0» .exit), now («rel_bord_1» .exit)),
+          (now («t_e» .exit), now («t_q» .exit), now («l_a» .exit)),
+        ) ⌝ }
 {
     c_send::send_frame(
         samples,
