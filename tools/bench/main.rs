@@ -32,7 +32,8 @@ struct Case {
     rows: RefCell<[f64; 320]>,
 }
 
-fn case(rng: &mut Rng, slots: usize, onsets: usize, wide: bool) -> Case {
+/// A frame with so many onsets. Means of quiet frames (gain 1) stay under 64, so that no resolution test passes early; loud ones (gain 10) lie above.
+fn case(rng: &mut Rng, slots: usize, onsets: usize, wide: bool, gain: f64) -> Case {
     let (high, low): (Vec<u8>, Vec<u8>) = if wide {
         ((10..=64).collect(), (10..=64).step_by(2).collect())
     } else {
@@ -55,7 +56,7 @@ fn case(rng: &mut Rng, slots: usize, onsets: usize, wide: bool) -> Case {
     for c in 2..2 * (slots + 8) + 2 {
         let loud = list.contains(&((c - 2) / 2));
         for k in bands.clone() {
-            let level = if loud { 60.0 } else { 2.0 } * if k % 5 == 0 { 3.0 } else { 1.0 };
+            let level = gain * if loud { 60.0 } else { 2.0 } * if k % 5 == 0 { 3.0 } else { 1.0 };
             frame.set(c, k, level * (0.9 + 0.2 * rng.unit()), level * 0.1 * rng.unit());
         }
     }
@@ -181,27 +182,31 @@ fn row(name: &str, rust: fn(&Case) -> usize, port: fn(&Case) -> usize, cases: &[
 
 fn main() {
     let rounds: usize = std::env::args().nth(1).map_or(15, |s| s.parse().expect("usage: bench [ROUNDS]"));
-    println!("{:<50} {:>10} {:>10} {:>7}   spread", "", "Rust, ns", "here, ns", "ratio");
+    println!("{:<58} {:>10} {:>10} {:>7}   spread", "", "Rust, ns", "here, ns", "ratio");
     let mut rng = Rng(1);
     for slots in [16, 15] {
-        for wide in [true, false] {
-            let tables = if wide { "54 bands" } else { "16 bands" };
-            let mut mix = Vec::new();
-            for onsets in 0..4 {
-                let cases: Vec<Case> = (0..4).map(|_| case(&mut rng, slots, onsets, wide)).collect();
-                row(&format!("frame, {slots} slots, {tables}, {onsets} onsets"), rust_frame, port_frame, &cases, rounds);
-                mix.extend(cases);
+        for (wide, tables) in [(true, "54 bands"), (false, "16 bands")] {
+            for (gain, level) in [(1.0, "quiet"), (10.0, "loud")] {
+                let what = format!("{slots} slots, {tables}, {level}");
+                let mut mix = Vec::new();
+                for onsets in 0..4 {
+                    let cases: Vec<Case> = (0..4).map(|_| case(&mut rng, slots, onsets, wide, gain)).collect();
+                    row(&format!("frame, {what}, {onsets} onsets"), rust_frame, port_frame, &cases, rounds);
+                    mix.extend(cases);
+                }
+                row(&format!("frame, {what}, mix"), rust_frame, port_frame, &mix, rounds);
+                row(&format!("frame as a turn, {what}, mix"), rust_frame, port_turn, &mix, rounds);
+                row(&format!("election, {what}, mix"), rust_elect, port_elect, &mix, rounds);
+                row(&format!("energies, {what}, mix"), rust_energies, port_energies, &mix, rounds);
+                if wide && gain == 1.0 {
+                    row(&format!("time grid, {slots} slots, mix"), rust_time, port_time, &mix, rounds);
+                    row(&format!("writing, {slots} slots, mix"), rust_write, port_write, &mix, rounds);
+                    row(&format!("reading, {slots} slots, mix"), rust_read, port_read, &mix, rounds);
+                }
             }
-            row(&format!("frame, {slots} slots, {tables}, mix"), rust_frame, port_frame, &mix, rounds);
-            row(&format!("frame as a turn, {slots} slots, {tables}, mix"), rust_frame, port_turn, &mix, rounds);
-            row(&format!("election, {slots} slots, {tables}, mix"), rust_elect, port_elect, &mix, rounds);
-            row(&format!("energies, {slots} slots, {tables}, mix"), rust_energies, port_energies, &mix, rounds);
-            row(&format!("time grid, {slots} slots, mix"), rust_time, port_time, &mix, rounds);
-            row(&format!("writing, {slots} slots, mix"), rust_write, port_write, &mix, rounds);
-            row(&format!("reading, {slots} slots, mix"), rust_read, port_read, &mix, rounds);
         }
     }
-    let memory: Vec<Case> = (0..1500).map(|i| case(&mut rng, 16, i % 4, true)).collect();
-    row("frame, 16 slots, 54 bands, mix, from memory", rust_frame, port_frame, &memory, rounds);
-    row("frame as a turn, 16 slots, 54 bands, from memory", rust_frame, port_turn, &memory, rounds);
+    let memory: Vec<Case> = (0..1500).map(|i| case(&mut rng, 16, i % 4, true, 1.0)).collect();
+    row("frame, 16 slots, 54 bands, quiet, from memory", rust_frame, port_frame, &memory, rounds);
+    row("frame as a turn, 16 slots, 54 bands, quiet, from memory", rust_frame, port_turn, &memory, rounds);
 }

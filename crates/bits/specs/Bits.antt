@@ -1,4 +1,4 @@
--- Bits of a list of bytes, the most significant bit of a byte first (document 01, "Corners", src/sbr_writer.rs).
+-- Bits of a list of bytes, the most significant bit of a byte first (docs/ORDER.md, WR-2).
 use mathlib.Core.Bool.{Bool, true, false}
 use mathlib.Core.List.{List, [], _∷_}
 use Prim.Native.Nat.{ℕ, zero, suc, _+_, _-_, _*_, _/_, _%_, _^_}

@@ -2,7 +2,7 @@
 -- range shorter than its count.
 use mathlib.Core.Bool.{Bool, false, cond, _&&_}
 use mathlib.Core.List.{List, map}
-use Prim.Native.Nat.{ℕ}
+use Prim.Native.Nat.{ℕ, _%_}
 use lib.Dec.{leb, eqb}
 use lib.ListN.{length}
 use Rattle.sbr_grid.specs.Grid.{classOf, first, Grid, made, recordOf, empty}
@@ -23,10 +23,11 @@ handed class env noise b0 b1 rel0 rel1 p = record {
   pointer = p;
 }
 
--- the record that is meant: the first places of each range, as many as its count says
+-- the record that is meant: the class of the two low bits, which are all where the number is at most 3, and the first places of each range, as many as its
+-- count says
 abbrev pub gridFrom : Handed → List ℕ → List ℕ → List ℕ → Grid
 gridFrom h flags rel0 rel1 =
-    made (classOf (h .«frame_class»)) (h .«num_noise») (map (λ b. eqb b 1) (first 0 (h .«num_env») flags)) (h .«var_bord_0»)
+    made (classOf (h .«frame_class» % 4)) (h .«num_noise») (map (λ b. eqb b 1) (first 0 (h .«num_env») flags)) (h .«var_bord_0»)
     (h .«var_bord_1») (first 0 (h .«num_rel_0») rel0) (first 0 (h .«num_rel_1») rel1) (h .pointer) false
 
 -- class and the two lists can be formed

@@ -1,4 +1,4 @@
--- The band tables (document 01, refusal 3), and neighbours of a list: the bands of a table, the envelopes of a list of borders.
+-- The band tables (docs/ORDER.md, RF-11 to RF-18), and neighbours of a list: the bands of a table, the envelopes of a list of borders.
 use mathlib.Core.Bool.{Bool, true, false, _&&_, _||_}
 use mathlib.Core.List.{List, [], _∷_}
 use Prim.Native.Nat.{ℕ, zero, suc, _+_, _-_}

@@ -1,4 +1,4 @@
-// The tests of the band tables: document 01, refusal 3.
+// The tests of the band tables: docs/ORDER.md, RF-11 to RF-18.
 ghost use mathlib.Core.Path.{_≡_};
 ghost use mathlib.Core.Bool.{true, false};
 ghost use Prim.Native.Nat.{ℕ, _-_, _≤_, _<_};

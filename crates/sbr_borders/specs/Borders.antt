@@ -1,4 +1,4 @@
--- Wanted borders, their shifts, and the even lengths that reach them: `varvar_from_borders` of src/sbr_encoder.rs, document 01, "Border search".
+-- Wanted borders, their shifts, and the even lengths that reach them: `varvar_from_borders` of src/sbr_encoder.rs, docs/ORDER.md, BS.
 use mathlib.Core.Bool.{Bool, true, cond, _&&_, _||_}
 use mathlib.Core.List.{List, [], _∷_, reverse}
 use mathlib.Core.Option.{Option, none, some}

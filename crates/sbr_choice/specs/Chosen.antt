@@ -25,7 +25,7 @@ pub record Sound (n lead : ℕ) (g : Grid) : Type 0 where
 abbrev pub ChosenIsSound : Type 0
 ChosenIsSound = (variable even : Bool) (n lead : ℕ) (os : List ℕ) → Case n lead os → Sound n lead (chosenGrid variable even os lead n)
 
--- ---- the marked cases: document 01
+-- ---- the marked cases: docs/ORDER.md, MC-3 to MC-14
 
 pub record Borders : Type 0 where
   pub borders : List ℕ

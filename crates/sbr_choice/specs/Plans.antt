@@ -1,4 +1,4 @@
--- What a plan of the border search is, without the search (document 01, "Border search"), and the statement that the search answers the
+-- What a plan of the border search is, without the search (docs/ORDER.md, BS), and the statement that the search answers the
 -- first of all plans. Proved in proofs/Best.antt.
 use mathlib.Core.Path.{_≡_}
 use mathlib.Core.Bool.{true}

@@ -1,4 +1,4 @@
--- Numbers of 64 bits: maximum, minimum, mean and the spread limit (document 01, "Corners", src/sbr_encoder.rs).
+-- Numbers of 64 bits: maximum, minimum, mean and the spread limit (docs/ORDER.md, ON-13, RS-9 to RS-11).
 use mathlib.Core.Bool.{Bool, false, cond, not, _&&_}
 use Prim.Native.Nat.{ℕ, zero, suc, _*_, _^_}
 use lib.Dec.{ltb}

@@ -1,5 +1,5 @@
 -- The grid record: its classes, the view that has only the places in use, and the record of a view.
--- From ISO/IEC 14496-3 Table 4.69 and document 01, "Corners, file by file".
+-- From ISO/IEC 14496-3 Table 4.69 and docs/ORDER.md, RC.
 use mathlib.Core.Bool.{Bool, false, cond, _&&_}
 use mathlib.Core.List.{List, [], _∷_}
 use Prim.Native.Nat.{ℕ, zero, suc, _+_, _^_, _≤_}

@@ -1,4 +1,4 @@
--- Refusals and their numbers: document 01, "Refusals by who causes them".
+-- Refusals and their numbers: docs/ORDER.md, RF.
 use mathlib.Core.Bool.{Bool, cond}
 use Prim.Native.Nat.{ℕ}
 use Rattle.sbr_grid.specs.declared.Refusal.{Refusal}

@@ -1,6 +1,6 @@
 // The grid record of src/sbr_grid.rs, with its limits, the record of its time grid, and the refusals of every call.
 ghost use mathlib.Core.Path.{_≡_};
-ghost use Prim.Native.Nat.{_+_, _<_};
+ghost use Prim.Native.Nat.{_+_, _%_};
 ghost use Rattle.sbr_grid.specs.Refusals.{numberOf};
 ghost use Rattle.sbr_grid.specs.Grid.{classCode, classOf, empty, tableWidth};
 ghost use Rattle.sbr_grid.specs.Times.{slotCount, emptyTime};
@@ -17,16 +17,23 @@ impl FrameClass {
     // The largest class number.
     pub const MAX_CODE: u32 = 3;
 
-    // The class of a number; every number above 2 gives VarVar.
-    pub fn from_bits(v: u32) -> Self
-        ensures { λ r. ⌜ r ≡ classOf v ⌝ }
+    // The class of a number up to 3.
+    fn of_code(code: u32) -> Self
+        ensures { λ r. ⌜ r ≡ classOf code ⌝ }
     {
-        match v {
+        match code {
             0 => FrameClass::FixFix,
             1 => FrameClass::FixVar,
             2 => FrameClass::VarFix,
             _ => FrameClass::VarVar,
         }
+    }
+
+    // The class of the two low bits of a number.
+    pub fn from_bits(v: u32) -> Self
+        ensures { λ r. ⌜ r ≡ classOf (v % 4) ⌝ }
+    {
+        FrameClass::of_code(v % 4)
     }
 
     // The number of a class, as it is written in two bits.

@@ -1,4 +1,4 @@
--- What `gridlist` prints: document 01, "Program gridlist". Text is a list of bytes.
+-- What `gridlist` prints: docs/ORDER.md, GL. Text is a list of bytes.
 use mathlib.Core.Bool.{Bool, true, false, cond}
 use mathlib.Core.List.{List, [], _∷_, _++_, map}
 use Prim.Native.Nat.{ℕ, zero, suc, _+_, _/_, _%_}

@@ -1,5 +1,5 @@
 -- sbr_grid() read: ISO/IEC 14496-3, Table 4.69, field by field. Bits that end too soon are refused where the field is read (7), a count
--- that no frame has directly after the last count field (8): document 01, "Refusals".
+-- that no frame has directly after the last count field (8): docs/ORDER.md, RD-14 to RD-18.
 use mathlib.Core.Bool.{Bool, true, false, cond, _&&_}
 use mathlib.Core.List.{List, [], _∷_, reverse}
 use Prim.Native.Nat.{ℕ, zero, suc, _+_, _^_}

@@ -1,4 +1,4 @@
--- Samples of the analysis filter bank: document 01, "Corners", src/sbr_qmf.rs, and "Forms", `&[[Complex; 64]]`.
+-- Samples of the analysis filter bank: src/sbr_qmf.rs; docs/ORDER.md, FM-12, FM-13, FM-18.
 use mathlib.Core.Path.{_≡_}
 use mathlib.Core.List.{List}
 use Prim.Native.Nat.{ℕ, _+_, _*_, _≤_, _<_}

@@ -1,4 +1,4 @@
--- What a reading comes to: document 01, "What the receiver adds". Refused by 1, then 7 or 8 as fields come, 6, 9.
+-- What a reading comes to: docs/ORDER.md, RD. Refused by 1, then 7 or 8 as fields come, 6, 9.
 use mathlib.Core.Bool.{Bool, false}
 use mathlib.Core.List.{List}
 use Prim.Native.Nat.{ℕ, _+_, _-_}

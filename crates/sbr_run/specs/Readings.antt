@@ -1,4 +1,4 @@
--- A receiver's readings: document 01, "Runs, for term 3". The call is that of the public contract: `readGrid`.
+-- A receiver's readings: docs/ORDER.md, T3. The call is that of the public contract: `readGrid`.
 use mathlib.Core.Path.{_≡_}
 use mathlib.Core.Bool.{Bool}
 use mathlib.Core.List.{List, [], _∷_, _++_}

@@ -1,4 +1,4 @@
--- A transmitter's run: document 01, "Runs, for term 3". The calls are those of the public contracts: `elect`, `timeGrid`, `writeGrid`.
+-- A transmitter's run: docs/ORDER.md, T3. The calls are those of the public contracts: `elect`, `timeGrid`, `writeGrid`.
 -- The call that chooses a turn's record is a parameter of the run. That of term 3 is the election, `Elects`.
 use mathlib.Core.Path.{_≡_}
 use mathlib.Core.Bool.{Bool}

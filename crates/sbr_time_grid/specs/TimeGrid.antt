@@ -84,13 +84,13 @@ lA g =
     byClass (g .frameClass) none (byPointer (g .pointer) none at at) (byPointer (g .pointer) none none (pos (g .pointer - 1)))
     (byPointer (g .pointer) none at at)
 
--- the counts are within the record (document 01, refusal 6), and the list in use has a length for each envelope but one
+-- the counts are within the record (docs/ORDER.md, TG-33 to TG-36, TG-40, TG-41), and the list in use has a length for each envelope but one
 unfoldable pub countsFit : Grid → Bool
 countsFit g =
     leb 1 (numEnv g) && leb (numEnv g) 5 && leb (length (g .relBord0)) 4 && leb (length (g .relBord1)) 4
     && eqb (nRelLead g + nRelTrail g + 1) (numEnv g)
 
--- a border byte that the class uses is at most 3 (document 01, refusal 6)
+-- a border byte that the class uses is at most 3 (docs/ORDER.md, TG-38, TG-39)
 unfoldable pub bordersFit : Grid → Bool
 bordersFit g =
     let leading = leb (g .varBord0) 3 in

@@ -1,4 +1,4 @@
--- What writing a record comes to: document 01, "Refusals", 5 and 4, with the conditions of `write_grid` of src/sbr_writer.rs.
+-- What writing a record comes to: docs/ORDER.md, WR-15 to WR-35, with the conditions of `write_grid` of src/sbr_writer.rs.
 use mathlib.Core.Bool.{Bool, true, false, cond, not, _&&_, _||_}
 use mathlib.Core.List.{List, [], _∷_}
 use Prim.Native.Nat.{ℕ, _+_}

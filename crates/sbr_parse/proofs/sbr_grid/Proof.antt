@@ -1,6 +1,7 @@
 -- `sbr_parse::sbr_grid` meets its contract.
 use mathlib.Core.Path.{_≡_, _∙_}
 use Prim.Native.Nat.{_-_}
+use native.Mathlib.Nat.{mod-mod}
 use native.Mathlib.Omega.{arith}
 use borrow.Author.Needs.{needs}
 use Rattle.bits.specs.Bits.{bitsOf}
@@ -15,7 +16,7 @@ body : (c : tie.After-from-bits) → let a = c .before .before .before .before .
     sbrGrid (bitsOf (a .width) (a .value)) ≡ byClass (c .from-bits .result) fixFix fixVar varFix varVar (bitsOf (a .width - 2) (a .value))
 body c =
     let a = c .before .before .before .before .before .args .bits in
-    grid-reads (a .width) (a .width - 2) (a .value) (omega arith) ∙ rw (c .from-bits .ensures, c .before .two-bits .ensures)
+    grid-reads (a .width) (a .width - 2) (a .value) (omega arith) ∙ rw (c .from-bits .ensures, c .before .two-bits .ensures, mod-mod)
 
 refusal-requires : tie.Need-refusal-requires
 refusal-requires c κs = search needs
