@@ -177,7 +177,7 @@ fn row(name: &str, rust: fn(&Case) -> usize, port: fn(&Case) -> usize, cases: &[
     both.sort_by(|a, b| (a.0 / a.1).total_cmp(&(b.0 / b.1)));
     let (r, p) = both[rounds / 2];
     let ratio = |i: usize| both[i].0 / both[i].1;
-    println!("{name:<50} {r:>10.0} {p:>10.0} {:>7.2}   {:.2} to {:.2}", r / p, ratio(0), ratio(rounds - 1));
+    println!("{name:<58} {r:>10.0} {p:>10.0} {:>7.2}   {:.2} to {:.2}", r / p, ratio(0), ratio(rounds - 1));
 }
 
 fn main() {

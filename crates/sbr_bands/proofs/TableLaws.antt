@@ -13,7 +13,7 @@ use lib.Seq.{getD-set-same, getD-set-other}
 use Rattle.sbr_time_grid.specs.TimeGrid.{rises}
 use Rattle.sbr_time_grid.proofs.Laws.{untrue}
 use Rattle.sbr_time_grid.proofs.Rises.{rises-more, rises-fails}
-use Rattle.sbr_bands.specs.Tables.{entry, top, climbs, among, drawn, highFits, lowFits, tablesFit}
+use Rattle.sbr_bands.specs.Tables.{entry, lastEntry, climbs, among, drawn, highFits, lowFits, tablesFit}
 
 -- ---- numbers that rise
 
@@ -100,7 +100,7 @@ pub record Table (t : List ℕ) (n : ℕ) : Type 0 where
   pub by64 : (j : ℕ) → j < length t → entry t j ≤ 64
 
 -- a table that climbs up to 64 at most
-table : (t : List ℕ) (n : ℕ) → n ≤ length t → climbs t ≡ true → top t ≤ 64 → Table t n
+table : (t : List ℕ) (n : ℕ) → n ≤ length t → climbs t ≡ true → lastEntry t ≤ 64 → Table t n
 table t n h e l =
     let gap : (i j : ℕ) → i ≤ j → j ≤ length t - 1 → entry t i + (j - i) ≤ entry t j = λ i j. rises-gap (entry t) (length t - 1) i j e in
     record {
@@ -118,7 +118,7 @@ table-from t n j b h = elim (decLt 0 j) [
   | no l ↦ let e : j ≡ 0 = omega arith in rw e (omega arith)
 ]
 
-pub table-to : (t : List ℕ) (n j : ℕ) → Table t n → j < length t → entry t j ≤ top t
+pub table-to : (t : List ℕ) (n j : ℕ) → Table t n → j < length t → entry t j ≤ lastEntry t
 table-to t n j b h = elim (decLt j (length t - 1)) [
   | yes l ↦ omega (arith, b .rising j (length t - 1) l (omega arith))
   | no l ↦ let e : j ≡ length t - 1 = omega arith in rw e (omega arith)
@@ -131,8 +131,8 @@ high-table high e =
     let p = simp and-eq-true-iff at e in
     table high 2 (leb-true _ _ (p .0 .0)) (p .0 .1) (leb-true _ _ (p .1))
 
--- a low table that climbs to the top of the high one
-pub low-table : (high low : List ℕ) → Table high 2 → 1 ≤ length low → climbs low ≡ true → top low ≡ top high → Table low 1
+-- a low table that climbs to the lastEntry of the high one
+pub low-table : (high low : List ℕ) → Table high 2 → 1 ≤ length low → climbs low ≡ true → lastEntry low ≡ lastEntry high → Table low 1
 low-table high low t h e last = table low 1 h e (omega (arith, t .by64 (length high - 1) (omega arith)))
 
 -- what the test of the low table, l, tells
@@ -141,7 +141,7 @@ pub record LowTests (h l : List ℕ) : Type 0 where
   pub climbing : climbs l ≡ true
   pub from-high : drawn h l (length l) ≡ true
   pub first : entry l 0 ≡ entry h 0
-  pub last : top l ≡ top h
+  pub last : lastEntry l ≡ lastEntry h
 
 -- a low table that passes the test
 pub low-tests : (high low : List ℕ) → lowFits high low ≡ true → LowTests high low
@@ -161,7 +161,7 @@ pub record Tables (h l : List ℕ) : Type 0 where
   pub high : Table h 2
   pub low : Table l 1
   pub first : entry l 0 ≡ entry h 0
-  pub last : top l ≡ top h
+  pub last : lastEntry l ≡ lastEntry h
   pub drawn : (j : ℕ) → j < length l → (i : ℕ) × ((i < length h) × (entry h i ≡ entry l j))
 
 -- tables that pass the tests fit

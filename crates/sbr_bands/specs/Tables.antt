@@ -10,8 +10,8 @@ abbrev pub entry : List ℕ → ℕ → ℕ
 entry xs i = getD xs i 0
 
 -- the last entry
-abbrev pub top : List ℕ → ℕ
-top xs = entry xs (length xs - 1)
+abbrev pub lastEntry : List ℕ → ℕ
+lastEntry xs = entry xs (length xs - 1)
 
 -- each entry is above the one before it
 abbrev pub climbs : List ℕ → Bool
@@ -28,12 +28,12 @@ drawn high low zero = true
 drawn high low (suc n) = drawn high low n && among high (length high) (entry low n)
 
 unfoldable pub highFits : List ℕ → Bool
-highFits high = leb 2 (length high) && climbs high && leb (top high) 64
+highFits high = leb 2 (length high) && climbs high && leb (lastEntry high) 64
 
 unfoldable pub lowFits : List ℕ → List ℕ → Bool
 lowFits high low =
     leb 1 (length low) && climbs low && drawn high low (length low) && eqb (entry low 0) (entry high 0)
-    && eqb (top low) (top high)
+    && eqb (lastEntry low) (lastEntry high)
 
 abbrev pub tablesFit : List ℕ → List ℕ → Bool
 tablesFit high low = highFits high && lowFits high low

@@ -20,7 +20,7 @@ use Rattle.sbr_writer.specs.Write.{fieldsFit, classFits}
 use Rattle.sbr_writer.proofs.Facts.{both, fields-told}
 use Rattle.sbr_qmf.specs.Qmf.{SampleAt}
 use Rattle.sbr_energy.specs.Energy.{slotEnergy, slotEnergies}
-use Rattle.sbr_bands.specs.Tables.{entry, top}
+use Rattle.sbr_bands.specs.Tables.{entry, lastEntry}
 use Rattle.sbr_onsets.specs.Onsets.{halvesAlike, onsetsOf, leadOf}
 use Rattle.sbr_onsets.proofs.OnsetSame.{onsets-array, halves-array}
 use Rattle.sbr_onsets.proofs.OnsetLead.{frame-case}
@@ -61,13 +61,13 @@ pub record Plan (x : SampleAt) (high low : List ℕ) (n : ℕ) (previous : ℤ) 
 
 -- the record that is chosen for the energies in the array is such a plan
 pub planned : (x : SampleAt) (high low : List ℕ) (n : ℕ) (previous : ℤ) (variable : Bool) (e : List Float) (r : SbrGrid) (transient : Bool)
-    → slotCount n ≡ true → e ≡ slotEnergies x (entry high 0) (top high) (n + 8)
+    → slotCount n ≡ true → e ≡ slotEnergies x (entry high 0) (lastEntry high) (n + 8)
     → r ≡ recordOf (chosenGrid variable (halvesAlike (λ i. getD e i nan) n) (onsetsOf (λ i. getD e i nan) n) (leadOf n previous) n)
     → transient ≡ hasOnset (onsetsOf (λ i. getD e i nan) n) → Plan x high low n previous variable r transient
 planned x high low n previous variable e r transient slots q p t =
-    let by = slotEnergy x (entry high 0) (top high) in
-    let os : onsetsOf (λ i. getD e i nan) n ≡ onsetsOf by n = ap (λ (l : List Float). onsetsOf (λ i. getD l i nan) n) q ∙ onsets-array x (entry high 0) (top high) n in
-    let hs : halvesAlike (λ i. getD e i nan) n ≡ halvesAlike by n = ap (λ (l : List Float). halvesAlike (λ i. getD l i nan) n) q ∙ halves-array x (entry high 0) (top high) n in
+    let by = slotEnergy x (entry high 0) (lastEntry high) in
+    let os : onsetsOf (λ i. getD e i nan) n ≡ onsetsOf by n = ap (λ (l : List Float). onsetsOf (λ i. getD l i nan) n) q ∙ onsets-array x (entry high 0) (lastEntry high) n in
+    let hs : halvesAlike (λ i. getD e i nan) n ≡ halvesAlike by n = ap (λ (l : List Float). halvesAlike (λ i. getD l i nan) n) q ∙ halves-array x (entry high 0) (lastEntry high) n in
     let g = chosenGrid variable (halvesAlike by n) (onsetsOf by n) (leadOf n previous) n in
     let c = frame-case n previous by slots in
     let s = chosen-is-sound variable (halvesAlike by n) n (leadOf n previous) (onsetsOf by n) c in

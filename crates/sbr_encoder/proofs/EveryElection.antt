@@ -21,7 +21,7 @@ use Rattle.sbr_build.specs.Cases.{Case}
 use Rattle.sbr_choice.specs.Choice.{chosenGrid}
 use Rattle.sbr_choice.specs.Chosen.{Sound}
 use Rattle.sbr_choice.proofs.Every.{chosen-is-sound}
-use Rattle.sbr_bands.specs.Tables.{spans, tablesFit, entry, top}
+use Rattle.sbr_bands.specs.Tables.{spans, tablesFit, entry, lastEntry}
 use Rattle.sbr_onsets.specs.Onsets.{halvesAlike, onsetsOf, leadOf}
 use Rattle.sbr_means.proofs.Spans.{spans-length}
 use Rattle.sbr_resolution.specs.Resolution.{electFreqRes}
@@ -85,5 +85,5 @@ every-election n high low x previous variable e a =
     let f = unless-answered (tablesFit high low) _ _ (s .1) in
     let l = unless-answered (leb (samplesNeeded n) (length x)) _ _ (f .1) in
     let v : e ≡ electedOf (columns x) high low n previous variable = cc (l .1) in
-    let en = slotEnergy (columns x) (entry high 0) (top high) in
+    let en = slotEnergy (columns x) (entry high 0) (lastEntry high) in
     rw v (for-onsets (columns x) high low n (leadOf n previous) variable (halvesAlike en n) (onsetsOf en n) (frame-case n previous en (s .0)))

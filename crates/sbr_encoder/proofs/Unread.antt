@@ -16,7 +16,7 @@ use Rattle.sbr_time_grid.proofs.Ends.{time-ends}
 use Rattle.sbr_qmf.specs.Qmf.{SampleAt, columns, samplesNeeded, AlikeIn}
 use Rattle.sbr_energy.specs.Energy.{slotEnergy}
 use Rattle.sbr_energy.proofs.Alike.{slot-same}
-use Rattle.sbr_bands.specs.Tables.{entry, top, tablesFit}
+use Rattle.sbr_bands.specs.Tables.{entry, lastEntry, tablesFit}
 use Rattle.sbr_bands.proofs.TableLaws.{Tables, tables}
 use Rattle.sbr_means.proofs.Spans.{mapped-same}
 use Rattle.sbr_onsets.specs.Onsets.{halvesAlike, onsetsOf, leadOf}
@@ -28,7 +28,7 @@ use Rattle.sbr_resolution.proofs.Times.{border-by}
 use Rattle.sbr_encoder.specs.Election.{resolved, electedOf, elect}
 use Rattle.sbr_encoder.specs.Unread.{ElectionsUnread}
 
-module _ (n : ℕ) (high low : List ℕ) (x y : SampleAt) (f : Tables high low) (a : AlikeIn (n + 8) (entry high 0) (top high) x y) where
+module _ (n : ℕ) (high low : List ℕ) (x y : SampleAt) (f : Tables high low) (a : AlikeIn (n + 8) (entry high 0) (lastEntry high) x y) where
   -- the resolutions of a grid, by what its time grid comes to
   resolved-same : (g d : Grid) (o : Outcome Times) → timeGrid n g ≡ o → valueOr (resolved x high low g) d o ≡ valueOr (resolved y high low g) d o
   resolved-same g d (refused e) q = refl
@@ -40,9 +40,9 @@ module _ (n : ℕ) (high low : List ℕ) (x y : SampleAt) (f : Tables high low) 
   -- the election, by lead and switch: onsets and evenness are the same, and so are the resolutions
   elected-same : (previous : ℤ) (variable : Bool) → electedOf x high low n previous variable ≡ electedOf y high low n previous variable
   elected-same previous variable =
-      let e = slotEnergy x (entry high 0) (top high) in
-      let e′ = slotEnergy y (entry high 0) (top high) in
-      let s = slot-same (n + 8) (entry high 0) (top high) x y a in
+      let e = slotEnergy x (entry high 0) (lastEntry high) in
+      let e′ = slotEnergy y (entry high 0) (lastEntry high) in
+      let s = slot-same (n + 8) (entry high 0) (lastEntry high) x y a in
       rw (halves-same e e′ n (λ i l. s i (omega arith)), onsets-same e e′ n s)
       (let g = chosenGrid variable (halvesAlike e′ n) (onsetsOf e′ n) (leadOf n previous) n in
       rw (resolved-same g (fallbackGrid (onsetsOf e′ n)) (timeGrid n g) refl))

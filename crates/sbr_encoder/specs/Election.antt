@@ -14,7 +14,7 @@ use Rattle.sbr_time_grid.specs.TimeGrid.{timeGrid}
 use Rattle.sbr_qmf.specs.Qmf.{SampleAt, columns, samplesNeeded}
 use Rattle.sbr_energy.specs.Energy.{slotEnergy}
 use Rattle.sbr_choice.specs.Choice.{chosenGrid, fallbackGrid}
-use Rattle.sbr_bands.specs.Tables.{entry, top, tablesFit, spans}
+use Rattle.sbr_bands.specs.Tables.{entry, lastEntry, tablesFit, spans}
 use Rattle.sbr_onsets.specs.Onsets.{halvesAlike, onsetsOf, leadOf}
 use Rattle.sbr_resolution.specs.Resolution.{electFreqRes}
 use Rattle.sbr_encoder.specs.declared.Election.{Election}
@@ -47,7 +47,7 @@ electedFor x high low n lead variable even os =
 -- the energies of the slots over the bands of the high table give onsets and evenness
 abbrev pub electedOf : SampleAt → List ℕ → List ℕ → ℕ → ℤ → Bool → Elected
 electedOf x high low n previous variable =
-    let e = slotEnergy x (entry high 0) (top high) in
+    let e = slotEnergy x (entry high 0) (lastEntry high) in
     electedFor x high low n (leadOf n previous) variable (halvesAlike e n) (onsetsOf e n)
 
 unfoldable pub elect : ℕ → List ℕ → List ℕ → List Float → ℤ → Bool → Outcome Elected

@@ -15,7 +15,7 @@ ghost use Rattle.sbr_qmf.specs.Qmf.{columns};
 ghost use lib.Ieee.{nan};
 ghost use Rattle.sbr_energy.specs.Energy.{slotEnergies};
 ghost use Rattle.sbr_choice.specs.Choice.{chosenGrid};
-ghost use Rattle.sbr_bands.specs.Tables.{entry, top};
+ghost use Rattle.sbr_bands.specs.Tables.{entry, lastEntry};
 ghost use Rattle.sbr_onsets.specs.Onsets.{halvesAlike, onsetsOf, leadOf};
 ghost use Rattle.sbr_resolution.specs.Resolution.{Ready};
 ghost use Rattle.sbr_encoder.specs.Election.{hasOnset, resolved, electedOf, elect, electionOf};
@@ -87,7 +87,7 @@ fn choose(
 // The energies of the slots over the bands of the high table.
 fn energies(x: &[f64], high: &[u8], low: &[u8], num_time_slots: usize) -> [f64; 24]
     requires { ⌜ (slotCount «num_time_slots» ≡ true) × Ready (now high) (now low) (now x) («num_time_slots» + 8) ⌝ }
-    ensures { λ r. ⌜ r ≡ slotEnergies (columns (now (x .entry))) (entry (now (high .entry)) 0) (top (now (high .entry))) («num_time_slots» + 8) ⌝ }
+    ensures { λ r. ⌜ r ≡ slotEnergies (columns (now (x .entry))) (entry (now (high .entry)) 0) (lastEntry (now (high .entry))) («num_time_slots» + 8) ⌝ }
 {
     let kx = high[0] as usize;
     let k_end = high[high.len() - 1] as usize;

@@ -13,7 +13,7 @@ use Rattle.sbr_grid.proofs.Refusals.{unless-same}
 use Rattle.sbr_time_grid.specs.TimeGrid.{timeGrid}
 use Rattle.sbr_time_grid.proofs.Ends.{time-ends}
 use Rattle.sbr_qmf.specs.Qmf.{SampleAt, columns, samplesNeeded, AlikeIn}
-use Rattle.sbr_bands.specs.Tables.{entry, top, tablesFit, Span, spansFrom}
+use Rattle.sbr_bands.specs.Tables.{entry, lastEntry, tablesFit, Span, spansFrom}
 use Rattle.sbr_bands.proofs.TableLaws.{Tables, tables, table-from, table-to}
 use Rattle.sbr_means.proofs.Spans.{mapped-same}
 use Rattle.sbr_resolution.proofs.Alike.{in-band, high-band}
@@ -21,7 +21,7 @@ use Rattle.sbr_resolution.proofs.Times.{border-by}
 use Rattle.sbr_envelopes.specs.Envelopes.{row, rows, rowsOf, energies}
 use Rattle.sbr_envelopes.specs.Unread.{EnergiesUnread}
 
-module _ (t : ℕ) (high low : List ℕ) (x y : SampleAt) (f : Tables high low) (a : AlikeIn t (entry high 0) (top high) x y) where
+module _ (t : ℕ) (high low : List ℕ) (x y : SampleAt) (f : Tables high low) (a : AlikeIn t (entry high 0) (lastEntry high) x y) where
   -- a row of either table
   row-same : (b : Bool) (env : Span) → env .to ≤ t → row x (cond b high low) env ≡ row y (cond b high low) env
   row-same true env h = mapped-same _ _ high 0 (length high - 1) (λ j l p. high-band t high x y (f .high) a env h j (omega arith))
@@ -40,7 +40,7 @@ module _ (t : ℕ) (high low : List ℕ) (x y : SampleAt) (f : Tables high low) 
       rw (row-same b (record { from = entry ts i; to = entry ts (i + 1) }) (h (i + 1) (omega arith)), rows-same fs ts (suc i) k (λ j l. h j (omega arith)))
 
 -- by what the time grid comes to
-timed-same : (n : ℕ) (high low : List ℕ) (x y : SampleAt) (g : Grid) (room : ℕ) (o : Outcome Times) → Tables high low → AlikeIn (n + 8) (entry high 0) (top high) x y
+timed-same : (n : ℕ) (high low : List ℕ) (x y : SampleAt) (g : Grid) (room : ℕ) (o : Outcome Times) → Tables high low → AlikeIn (n + 8) (entry high 0) (lastEntry high) x y
     → timeGrid n g ≡ o → rowsOf x high low g room o ≡ rowsOf y high low g room o
 timed-same n high low x y g room (refused e) f a q = refl
 timed-same n high low x y g room (answered t) f a q =

@@ -8,15 +8,15 @@ use lib.Dec.{leb}
 use lib.ListN.{length}
 use Rattle.sbr_qmf.specs.Qmf.{SampleAt, AlikeIn}
 use Rattle.sbr_energy.proofs.Alike.{mean-same}
-use Rattle.sbr_bands.specs.Tables.{entry, top, Span, spansFrom, spans}
+use Rattle.sbr_bands.specs.Tables.{entry, lastEntry, Span, spansFrom, spans}
 use Rattle.sbr_bands.proofs.TableLaws.{Table, table-from, table-to}
 use Rattle.sbr_means.specs.Means.{meanIn}
 use Rattle.sbr_resolution.specs.Resolution.{inside, someSpread, electFreqRes}
 
-module _ (t : ℕ) (high : List ℕ) (x y : SampleAt) (f : Table high 2) (a : AlikeIn t (entry high 0) (top high) x y) (env : Span) (h : env .to ≤ t) where
+module _ (t : ℕ) (high : List ℕ) (x y : SampleAt) (f : Table high 2) (a : AlikeIn t (entry high 0) (lastEntry high) x y) (env : Span) (h : env .to ≤ t) where
   -- a band within the high table
-  pub in-band : (b : Span) → entry high 0 ≤ b .from → b .to ≤ top high → meanIn x env b ≡ meanIn y env b
-  in-band b p q = mean-same t (entry high 0) (top high) x y a (env .from) (env .to) (b .from) (b .to) h p q
+  pub in-band : (b : Span) → entry high 0 ≤ b .from → b .to ≤ lastEntry high → meanIn x env b ≡ meanIn y env b
+  in-band b p q = mean-same t (entry high 0) (lastEntry high) x y a (env .from) (env .to) (b .from) (b .to) h p q
 
   -- a band of the high table
   pub high-band : (i : ℕ) → i + 1 < length high

@@ -10,7 +10,7 @@ use borrow.Author.Tests.{le-leb, lt-leb}
 use lib.Dec.{leb}
 use lib.ListN.{length}
 use Rattle.sbr_qmf.specs.Qmf.{SampleAt}
-use Rattle.sbr_bands.specs.Tables.{entry, top, Span, spansFrom, spans}
+use Rattle.sbr_bands.specs.Tables.{entry, lastEntry, Span, spansFrom, spans}
 use Rattle.sbr_means.specs.Means.{meanIn}
 use Rattle.sbr_resolution.specs.Resolution.{inside, isSpread, someSpread, electFreqRes}
 use Rattle.sbr_bands.proofs.TableLaws.{Table, Tables}
@@ -68,7 +68,7 @@ module _ (t : List ℕ) (n a b : ℕ) (table : Table t n) (h : a ≤ b) (l : b <
 
 -- the place at which the search for an entry of the low table stops has it
 pub found : (high low : List ℕ) (i e j : ℕ) → Tables high low → 1 ≤ j → j < length low → entry high i ≡ entry low (j - 1) → i ≤ e → e < length high
-    → ((m : ℕ) → i ≤ m → m < e → entry high m < entry low j) → (entry low j ≤ top high → entry low j ≤ entry high e) → entry high e ≡ entry low j
+    → ((m : ℕ) → i ≤ m → m < e → entry high m < entry low j) → (entry low j ≤ lastEntry high → entry low j ≤ entry high e) → entry high e ≡ entry low j
 found high low i e j t s h p q r before at =
     let d = t .drawn j h in
     let m = d .0 in

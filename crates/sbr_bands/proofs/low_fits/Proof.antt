@@ -5,7 +5,7 @@ use borrow.Author.Needs.{needs}
 use borrow.Author.Tests.{not-true, not-false, le-leb, eq-eqb}
 use lib.ListN.{length}
 use Rattle.sbr_time_grid.proofs.Laws.{untrue}
-use Rattle.sbr_bands.specs.Tables.{entry, top, climbs, lowFits}
+use Rattle.sbr_bands.specs.Tables.{entry, lastEntry, climbs, lowFits}
 use Rattle.sbr_bands.proofs.TableLaws.{Table, high-table, low-table, low-tests}
 use Rattle.sbr_bands.proofs.low_fits.Statement.{statement}
 use Rattle.sbr_bands.proofs.low_fits.Tie as tie
@@ -65,7 +65,7 @@ returns-5 c =
       climbing (c .before),
       ← c .is-drawn .ensures,
       eq-eqb (entry (a .low .now) 0) (entry (a .high .now) 0) (omega arith),
-      eq-eqb (top (a .low .now)) (top (a .high .now)) (omega arith),
+      eq-eqb (lastEntry (a .low .now)) (lastEntry (a .high .now)) (omega arith),
       and-true (c .is-drawn .result && true),
       and-true (c .is-drawn .result),
     )
