@@ -131,7 +131,7 @@ high-table high e =
     let p = simp and-eq-true-iff at e in
     table high 2 (leb-true _ _ (p .0 .0)) (p .0 .1) (leb-true _ _ (p .1))
 
--- a low table that climbs to the lastEntry of the high one
+-- a low table that climbs to the last entry of the high one
 pub low-table : (high low : List ℕ) → Table high 2 → 1 ≤ length low → climbs low ≡ true → lastEntry low ≡ lastEntry high → Table low 1
 low-table high low t h e last = table low 1 h e (omega (arith, t .by64 (length high - 1) (omega arith)))
 
