@@ -3,9 +3,9 @@
 
 usage: tools/oracle/build && tools/gridlist_cases.py
 
-Writes crates/gridlist_cases/stdin (each case: two bytes of length, low byte first, and an input of gridlist) and
-crates/gridlist_cases/stdout, which the oracle prints, and says how many cases end in each way. Seeded, so that it
-makes the same files each time.
+Writes crates/gridlist_cases/stdin (each case: two bytes of length, low byte first, and an input of gridlist; the last ends early) and
+crates/gridlist_cases/stdout, which the oracle prints, and says how many cases end in each way. Writes crates/gridlist/stdin too, the
+longest input with rubbish behind it, and crates/gridlist/stdout. Seeded, so that it makes the same files each time.
 """
 import collections
 import random
@@ -82,6 +82,19 @@ def stream(slots, border, count):
     return bits
 
 
+def longest(slots):
+    """255 frames of 26 bits each, VarVar of five envelopes: the most bytes that a listing looks at."""
+    bits, lead = [], 0
+    while len(bits) < 255 * 26:
+        over = RANDOM.randrange(4)
+        j = RANDOM.randrange(1, 4)
+        rel = [RANDOM.choice((0, 0, 1)) for _ in range(4)]
+        if lead + sum(2 * r + 2 for r in rel) < slots + over:
+            bits += varvar(lead, over, rel[:j], rel[j:], RANDOM.randrange(6), some_flags(5))
+            lead = over
+    return bytes([slots, slots, 255]) + pack(bits)
+
+
 def made():
     # the paper's example, and inputs shorter than a header
     yield bytes.fromhex('1010020A4980')
@@ -108,6 +121,9 @@ def made():
         yield bytes([slots, slots, 3]) + pack(fixfix(0, 1) + fixfix(1, 0) + fixfix(3, 0))
         for j, k in ((2, 3), (3, 2), (3, 3)):
             yield bytes([slots, slots, 1]) + pack(varvar(0, 0, [0] * j, [0] * k, 0, []))
+            # the last count is the last field that there is
+            yield bytes([slots, slots, 7]) + pack(fixfix(0, 1) * 6 + varvar(0, 0, [0] * j, [0] * k, 0, [])[:10])
+        yield bytes([slots, slots, 5]) + pack(fixfix(0, 1) * 4 + fixfix(3, 0)[:4])
     # 9: borders below the slot count and above three past it, and each class from each wrong lead
     for slots in (15, 16):
         for border in (0, 1, slots - 2, slots - 1, slots + 4, slots + 5, 100, 255):
@@ -144,12 +160,20 @@ def made():
         slots = RANDOM.choice((15, 16))
         yield bytes([slots, slots + RANDOM.randrange(4), RANDOM.randrange(1, 9)]) + bytes(
             RANDOM.randrange(256) for _ in range(RANDOM.randrange(12)))
+    # the longest input, and the same with rubbish behind it
+    for slots in (15, 16):
+        yield longest(slots)
+        yield longest(slots) + bytes(RANDOM.randrange(256) for _ in range(300))
 
 
 def main():
     cases = list(made())
-    data = b''.join(bytes([len(c) % 256, len(c) // 256]) + c for c in cases)
+    # one more, of which less is there than is asked for: what was read is listed and nothing behind it
+    cases.append(bytes([16, 16, 255]) + pack(stream(16, 16, 9)))
+    lengths = [len(c) for c in cases[:-1]] + [700]
+    data = b''.join(bytes([n % 256, n // 256]) + c for n, c in zip(lengths, cases, strict=True))
     listed = store('gridlist_cases', 'gridlist', data)
+    store('gridlist', 'listing', longest(16) + b'rubbish')
     ends = collections.Counter()
     for text in listed.split('.\n')[:-1]:
         last = text.split('\n')[-2] if text else ''

@@ -1,6 +1,7 @@
 //! The Rust's own parser, time grid, elections and energies behind a driver. `sbr_grid.rs` and `sbr_time_grid.rs` are taken whole.
-//! usage: oracle gridlist < CASES    each case: two bytes of length, low byte first, and an input of `gridlist`;
-//! prints each listing and a line with a dot.
+//! usage: oracle gridlist < CASES    each case: two bytes of length, low byte first, and an input of `gridlist`,
+//! of which the last may end early; prints each listing and a line with a dot.
+//!        oracle listing < INPUT     prints the listing of one input of `gridlist`.
 //!        oracle elections < CASES   each case as tools/election_cases.py says; prints a line for each.
 //!        oracle grids < CASES       each case as tools/grid_cases.py says; prints a line for each.
 //!        oracle runs < CASES        each run as tools/run_cases.py says; prints a line for each turn and reading.
@@ -72,11 +73,17 @@ fn listing(input: &[u8], out: &mut String) {
     }
 }
 
+fn one_listing(all: &[u8]) -> String {
+    let mut out = String::new();
+    listing(all, &mut out);
+    out
+}
+
 fn gridlist(all: &[u8]) -> String {
     let mut out = String::new();
     let mut rest = all;
     while rest.len() >= 2 {
-        let n = rest[0] as usize + 256 * rest[1] as usize;
+        let n = (rest[0] as usize + 256 * rest[1] as usize).min(rest.len() - 2);
         listing(&rest[2..2 + n], &mut out);
         out.push_str(".\n");
         rest = &rest[2 + n..];
@@ -426,11 +433,12 @@ fn main() {
     let args: Vec<String> = std::env::args().collect();
     let lines = match args.get(1).map(String::as_str) {
         Some("gridlist") if args.len() == 2 => gridlist,
+        Some("listing") if args.len() == 2 => one_listing,
         Some("elections") if args.len() == 2 => elections,
         Some("grids") if args.len() == 2 => grids,
         Some("runs") if args.len() == 2 => runs,
         _ => {
-            eprintln!("usage: oracle gridlist|elections|grids|runs < CASES");
+            eprintln!("usage: oracle gridlist|listing|elections|grids|runs < CASES");
             std::process::exit(2);
         }
     };

@@ -2,28 +2,23 @@
 // length, low byte first, and that many bytes.
 use libc::STDIN_FILENO;
 use libc::STDOUT_FILENO;
-use sbr_list::Page;
-ghost use Prim.Native.Nat.{_<_};
+ghost use mathlib.Core.Path.{_≡_};
+ghost use Prim.Native.Nat.{_+_, _*_, _≤_};
 
-// The listing of an input, and a line with a dot.
-fn print_listing(input: &[u8]) {
-    let mut page = [0u8; Page::SIZE];
-    let len = sbr_list::list_grids(input, &mut page);
-    io::write_all(STDOUT_FILENO, &page[..len]);
-    io::write_all(STDOUT_FILENO, b".\n");
-}
-
-// Fills the input, as far as there are bytes, and prints its listing.
-fn print_input(input: &mut [u8]) {
-    let got = io::read_full(STDIN_FILENO, input);
-    print_listing(&input[..got]);
-}
-
-// The number of two bytes.
+// The number of two bytes, low byte first.
 fn number(low: u8, high: u8) -> usize
-    ensures { λ r. ⌜ r < 65536 ⌝ }
+    ensures value { λ r. ⌜ r ≡ low + 256 * high ⌝ }
+    ensures small { λ r. ⌜ r ≤ 65535 ⌝ }
 {
     low as usize + 256 * (high as usize)
+}
+
+// Reads past the bytes of a case that its listing did not ask for.
+fn skip(count: usize)
+    requires { ⌜ count ≤ 65535 ⌝ }
+{
+    let mut bytes = io::large_buffer();
+    io::read_full(STDIN_FILENO, &mut bytes[..count]);
 }
 
 // Prints one case; false at the end of the input.
@@ -33,8 +28,9 @@ fn print_case() -> bool {
         return false;
     }
     let size = number(head[0], head[1]);
-    let mut input = io::large_buffer();
-    print_input(&mut input[..size]);
+    let got = list_io::list_input(size);
+    io::write_all(STDOUT_FILENO, b".\n");
+    skip(size - got);
     true
 }
 

@@ -13,15 +13,11 @@ ghost use Rattle.sbr_list.specs.Line.{textOf};
 
 mod text;
 
-// Where a listing is put: room for 255 lines of at most 64 bytes and one more.
-pub struct Page {}
+// The bytes of a page, where a listing is put: room for 255 lines of at most 64 bytes and one more.
+pub const PAGE_SIZE: usize = 16384;
 
-impl Page {
-    pub const SIZE: usize = 16384;
-
-    // The most bytes of input that 255 frames need: three, and 26 bits a frame.
-    pub const MOST_INPUT: usize = 832;
-}
+// The most bytes of input that 255 frames need: three, and 26 bits a frame.
+pub const MOST_INPUT: usize = 832;
 
 // A line at a place of the page; the answer is the place behind it.
 fn put(page: &mut [u8], at: usize, line: Line) -> usize
@@ -80,7 +76,7 @@ fn border(b: u8) -> Carried
 }
 
 // The listing of an input over the front of the page; the answer is its length.
-pub fn list_grids(input: &[u8], page: &mut [u8; Page::SIZE]) -> usize
+pub fn list_grids(input: &[u8], page: &mut [u8; PAGE_SIZE]) -> usize
     ensures long { λ r. ⌜ r ≡ length (listing (now (input .entry))) ⌝ }
     ensures text { λ _. ⌜ now (page .exit) ≡ over (listing (now (input .entry))) (now (page .entry)) ⌝ }
 {

@@ -2,20 +2,8 @@ use mathlib.Core.Path.{sym}
 use borrow.Author.Needs.{needs}
 use lib.Seq.{length-take-le}
 use Rattle.sbr_list.proofs.Pages.{listing-within}
-use Rattle.gridlist.proofs.main.Statement.{statement}
-use Rattle.gridlist.proofs.main.Tie as tie
-
-slice-aggregate-read-full : tie.Need-slice-aggregate-read-full
-slice-aggregate-read-full c = search needs
-
-read-full-requires : tie.Need-read-full-requires
-read-full-requires c κs = search needs
-
-array-share-prefix-input : tie.Need-array-share-prefix-input
-array-share-prefix-input c = search needs
-
-slice-aggregate-list-grids : tie.Need-slice-aggregate-list-grids
-slice-aggregate-list-grids c = search needs
+use Rattle.list_io.proofs.print_listing.Statement.{statement}
+use Rattle.list_io.proofs.print_listing.Tie as tie
 
 list-grids-requires : tie.Need-list-grids-requires
 list-grids-requires c κs = search needs
@@ -33,14 +21,10 @@ write-all-requires c κs = search needs
 returns : tie.Need-returns
 returns c = search needs
 
-pub main-spec : {M : Type 1} → statement M
-main-spec =
+pub print-listing-spec : {M : Type 1} → statement M
+print-listing-spec =
     tie.close
     (tie.spec
-    slice-aggregate-read-full
-    read-full-requires
-    array-share-prefix-input
-    slice-aggregate-list-grids
     list-grids-requires
     array-share-prefix-page
     slice-aggregate-write-all
