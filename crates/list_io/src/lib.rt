@@ -6,10 +6,11 @@ use sbr_list::PAGE_SIZE;
 ghost use mathlib.Core.Path.{_≡_};
 ghost use Prim.Native.Nat.{_≤_, min};
 ghost use lib.ListN.{length};
+ghost use Rattle.sbr_list.specs.Enough.{mostInput};
 
 // How many bytes are asked for: never more than a listing needs.
 fn asked(most: usize) -> usize
-    ensures { λ r. ⌜ r ≡ min most 832 ⌝ }
+    ensures { λ r. ⌜ r ≡ min most mostInput ⌝ }
 {
     if most < MOST_INPUT { most } else { MOST_INPUT }
 }
@@ -33,7 +34,7 @@ fn list_read(input: &mut [u8]) -> usize
 // Reads standard input, at most `most` bytes, and prints the listing of what was read; answers how many bytes that are. No contract can say
 // what is read or printed.
 pub fn list_input(most: usize) -> usize
-    ensures { λ r. ⌜ r ≤ min most 832 ⌝ }
+    ensures { λ r. ⌜ r ≤ min most mostInput ⌝ }
 {
     let mut input = [0u8; MOST_INPUT];
     let size = asked(most);

@@ -4,3 +4,4 @@ pub mod Whole
 pub mod Bounds
 pub mod Pages
 pub mod Turns
+pub mod Enough

@@ -1,2 +1,3 @@
 pub mod Listing
 pub mod Line
+pub mod Enough
