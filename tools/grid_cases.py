@@ -78,12 +78,51 @@ def odd():
         yield record(cls, [0, 1], 3, 3, (0, 0, 0, 0), (0, 0, 0, 0), 1)
 
 
-def main():
-    records = list(shapes()) + list(odd())
-    cases = []
+def sides(cls, rel):
+    """The lists of a class, each of them in use."""
+    return {FIXFIX: {}, FIXVAR: {'rel1': rel}, VARFIX: {'rel0': rel}, VARVAR: {'rel0': rel[:1], 'rel1': rel[1:]}}[cls]
+
+
+def single():
+    """One envelope: the time grid takes every pointer, with the mark that the formula gives, and only the noise count 1."""
+    for cls in range(4):
+        for pointer in (0, 1, 2, 3, 4, 127, 128, 253, 254, 255):
+            yield record(cls, [1], pointer=pointer)
+        for noise in (0, 2, 3, 255):
+            yield record(cls, [1], noise=noise)
+
+
+def wide():
+    """Lengths of more than 255 slots, of which a few would be left if slots or borders were counted modulo 256."""
+    for cls in (FIXVAR, VARFIX, VARVAR):
+        for r in (126, 127, 128, 129, 130, 131, 254, 255):
+            yield record(cls, [1, 0], **sides(cls, (r,)))
+            yield record(cls, [1, 0, 1], **sides(cls, (0, r)))
+            yield record(cls, [1, 0, 1], **sides(cls, (r, 0)))
+    for r in (126, 127, 128, 129, 130, 131):
+        yield record(VARVAR, [1, 0], rel1=(r,))
+
+
+def stray():
+    """Lengths above 3 in a list that the class does not send, at each place below its count, and anything in places past a count."""
+    for cls, unused in ((FIXFIX, 'rel0'), (FIXFIX, 'rel1'), (FIXVAR, 'rel0'), (VARFIX, 'rel1')):
+        for r, at in itertools.product((3, 4, 255), range(4)):
+            yield record(cls, [1, 1], **sides(cls, (1,)), **{unused: (0,) * at + (r,)})
+    for cls, leading, trailing in ((FIXFIX, 0, 0), (FIXVAR, 0, 1), (VARFIX, 1, 0), (VARVAR, 1, 0), (VARVAR, 0, 1)):
+        for flag in (0, 1):
+            rel0, rel1 = ((1,) * n + (255,) * (4 - n) for n in (leading, trailing))
+            yield record(cls, [flag] * 2 + [1 - flag] * 3, rel0=rel0, rel1=rel1, num_env=2, num_rel_0=leading, num_rel_1=trailing)
+
+
+def made(records):
+    """The time grid and the bits of each record."""
     for rec in records:
-        cases.append(time_grid(rec, RANDOM.choice((15, 16))))
-        cases.append(writing(rec, RANDOM.randrange(64), fill=RANDOM.choice((0, 255, 0x5a))))
+        yield time_grid(rec, RANDOM.choice((15, 16)))
+        yield writing(rec, RANDOM.randrange(64), fill=RANDOM.choice((0, 255, 0x5a)))
+
+
+def main():
+    cases = list(made(list(shapes()) + list(odd())))
     rec = record(VARVAR, flags(5), 1, 2, (0, 1), (1, 0), 3)
     for slots in (0, 14, 15, 16, 17, 31, 2 ** 32 + 16, 2 ** 64 - 1):
         cases.append(time_grid(rec, slots))
@@ -95,6 +134,7 @@ def main():
     for position in (2 ** 32, 2 ** 63, 2 ** 64 - 26, 2 ** 64 - 1):
         cases.append(writing(rec, position))
         cases.append(writing(record(FIXFIX, [1, 0]), position))
+    cases += made(itertools.chain(single(), wide(), stray()))
     data = b''.join(cases)
     lines = store('grid_cases', 'grids', data)
     ends = collections.Counter()

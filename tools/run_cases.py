@@ -12,9 +12,9 @@ A run, its numbers low byte first:
   8 bytes  first bit position
   1 byte   length of the high table, and its bytes; the same for the low table
   1 byte   what fills the range of 2,000 bytes
-A turn or a reading:
-  1 byte   1 for a turn, 2 for a reading
-  2 bytes  how many bytes of the range are lent
+A turn, a reading, or a byte that is changed between them:
+  1 byte   1 for a turn, 2 for a reading, 3 for a change
+  2 bytes  how many bytes of the range are lent; of a change, which byte it is, and then only 1 byte, its value
   8 bytes  slot count
   a turn:  1 byte switch; 2 bytes how many samples are handed in, at most 6,500; all are 0.0 but those listed; 2 bytes how many are
            listed; for each 2 bytes of index and 8 bytes, the bits of a double
@@ -39,6 +39,10 @@ def turn(slots, samples, lent=SIZE, switch=1, count=None):
 
 def reading(slots, lent=SIZE):
     return struct.pack('<BHQ', 2, lent, slots)
+
+
+def change(at, value):
+    return struct.pack('<BHB', 3, at, value)
 
 
 def run(steps, border, position, high=HIGH, low=LOW, fill=0):
@@ -103,6 +107,9 @@ def main():
         # positions past the range and at the largest number
         for position in (8 * SIZE - 3, 8 * SIZE, 8 * SIZE + 1, 2 ** 63, 2 ** 64 - 1):
             runs.append(run([turn(slots, onsets((6,))), turn(slots, {}, lent=0), reading(slots)], slots, position))
+    # frames whose bits are changed before they are read, and one after each that is as it was: another mark, another resolution, another count
+    for border, sound, at, value in ((17, onsets((4,)), 1, 0x10), (16, {}, 0, 0x00), (16, {}, 0, 0x18)):
+        runs.append(run([turn(16, sound), change(at, value), reading(16), turn(16, {}), reading(16)], border, 0))
     data = b''.join(runs)
     lines = store('run_cases', 'runs', data)
     kinds = collections.Counter()

@@ -8,7 +8,9 @@ use sbr_grid::SbrGrid;
 use sbr_grid::TimeGrid;
 ghost use mathlib.Core.Path.{_≡_};
 ghost use Prim.Native.Nat.{_≤_};
-ghost use lib.ListN.{length};
+ghost use lib.Ieee.{ofBits, binary64};
+ghost use lib.IntN.{natAbs};
+ghost use lib.ListN.{length, replicate};
 ghost use Rattle.case_io.specs.Counts.{Counts};
 
 // Most entries of a table, and most samples, that a case hands in.
@@ -16,9 +18,10 @@ pub const MAX_TABLE: usize = 255;
 
 pub const MAX_SAMPLES: usize = 6500;
 
-// Samples that are all 0.0. Only the length is said, which lending the array needs.
+// Samples that are all 0.0. Lending the array needs its length.
 pub fn silence() -> [f64; MAX_SAMPLES]
-    ensures { λ r. ⌜ 6500 ≡ length r ⌝ }
+    ensures long { λ r. ⌜ 6500 ≡ length r ⌝ }
+    ensures zeros { λ r. ⌜ r ≡ replicate 6500 (ofBits binary64 0) ⌝ }
 {
     [0.0; MAX_SAMPLES]
 }
@@ -64,8 +67,10 @@ pub fn next_flag() -> bool {
     next_byte() != 0
 }
 
-// The double of a bit pattern.
-fn double(bits: u64) -> f64 {
+// The double of a bit pattern. Those above infinity's, less the sign, are NaN's.
+fn double(bits: u64) -> f64
+    ensures { λ r. ⌜ r ≡ ofBits binary64 bits ⌝ }
+{
     if bits % 0x8000000000000000 <= 0x7FF0000000000000 {
         return f64::from_bits(bits);
     }
@@ -181,7 +186,9 @@ pub fn print_resolutions(freq_res: [bool; SbrGrid::MAX_NUM_ENV], num_env: usize)
     }
 }
 
-fn wide(byte: u8) -> u64 {
+fn wide(byte: u8) -> u64
+    ensures { λ r. ⌜ r ≡ byte ⌝ }
+{
     byte as u64
 }
 
@@ -226,12 +233,23 @@ pub fn print_double(x: f64) {
     }
 }
 
-// A number that is not below 0; 0 for one that is.
-pub fn whole(n: i32) -> u64 {
+// A number without its sign.
+pub fn magnitude(n: i32) -> u64
+    ensures { λ r. ⌜ r ≡ natAbs n ⌝ }
+{
     if n < 0 {
-        return 0;
+        return (-1 - n) as u64 + 1;
     }
     n as u64
+}
+
+// A name and a number that may be below 0.
+pub fn print_signed(name: &[u8], n: i32) {
+    print(name);
+    if n < 0 {
+        print(b"-");
+    }
+    io::print_decimal(STDOUT_FILENO, magnitude(n));
 }
 
 // A border after a blank.
@@ -239,30 +257,21 @@ fn print_border(border: u32) {
     print_field(b" ", border as u64);
 }
 
-// The first `count` of a frame's borders.
-fn print_borders(t_e: [u32; TimeGrid::MAX_BORDERS], count: usize) {
+// A frame's borders up to the one at `last`.
+fn print_borders(t_e: [u32; TimeGrid::MAX_BORDERS], last: usize) {
     for i in 0..TimeGrid::MAX_BORDERS {
-        if i < count {
+        if i <= last {
             print_border(t_e[i]);
         }
     }
 }
 
-// The first `count` of its noise borders.
-fn print_noise(t_q: [u32; TimeGrid::MAX_NOISE_BORDERS], count: usize) {
+// Its noise borders up to the one at `last`.
+fn print_noise(t_q: [u32; TimeGrid::MAX_NOISE_BORDERS], last: usize) {
     for i in 0..TimeGrid::MAX_NOISE_BORDERS {
-        if i < count {
+        if i <= last {
             print_border(t_q[i]);
         }
-    }
-}
-
-// The marked envelope; -1 for none.
-fn print_mark(mark: i32) {
-    if mark < 0 {
-        print(b" / -1");
-    } else {
-        print_field(b" / ", whole(mark));
     }
 }
 
@@ -270,10 +279,10 @@ fn print_mark(mark: i32) {
 pub fn print_times(time: TimeGrid) {
     let t_e = time.t_e;
     let t_q = time.t_q;
-    print_borders(t_e, time.num_env % 8 + 1);
+    print_borders(t_e, time.num_env);
     print(b" /");
-    print_noise(t_q, time.num_noise % 8 + 1);
-    print_mark(time.l_a);
+    print_noise(t_q, time.num_noise);
+    print_signed(b" / ", time.l_a);
 }
 
 fn print_byte(byte: u8) {

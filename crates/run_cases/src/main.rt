@@ -1,5 +1,5 @@
 // Drives runs of a transmitter and of a receiver through send_frame and receive_frame, and checks what is read against what was sent. The
-// turns and the readings come from standard input; tools/run_cases.py says what they are.
+// turns, the readings and the bytes that are changed between them come from standard input; tools/run_cases.py says what they are.
 use libc::STDIN_FILENO;
 use libc::STDOUT_FILENO;
 use sbr_envelopes::Estimated;
@@ -168,7 +168,17 @@ fn reading(
     }
 }
 
-// A turn or a reading, and its line.
+// Reads a byte, and puts it into the range.
+fn change(bytes: &mut [u8], at: usize) {
+    let byte = case_io::next_byte();
+    case_io::print(b"byte changed\n");
+    if bytes.len() <= at {
+        return;
+    }
+    bytes[at] = byte;
+}
+
+// A turn, a reading or a changed byte, and its line.
 fn step(
     high: &[u8],
     low: &[u8],
@@ -187,12 +197,16 @@ fn step(
         case_io::print(b"\n");
         return Ends { sender, receiver };
     }
+    if kind == 3 {
+        change(bytes, lent);
+        return ends;
+    }
     let receiver = reading(high, low, &bytes[..lent], numbers, sender.frames, receiver);
     case_io::print(b"\n");
     Ends { sender, receiver }
 }
 
-// Every turn and reading of a run.
+// Every turn, reading and changed byte of a run.
 fn steps(count: usize, high: &[u8], low: &[u8], bytes: &mut [u8], start: Place) -> Ends
     requires { ⌜ 2000 ≤ length (now bytes) ⌝ }
 {
@@ -218,7 +232,7 @@ fn filled(byte: u8) -> [u8; MAX_BYTES]
     [byte; MAX_BYTES]
 }
 
-// Makes the turns and readings of a run, and prints how many frames it sent and read, and every byte of its range.
+// Makes the steps of a run, and prints how many frames it sent and read, and every byte of its range.
 fn print_steps(count: usize, high: &[u8], low: &[u8], start: Place) {
     let mut bytes = filled(case_io::next_byte());
     let ends = steps(count, high, low, &mut bytes, start);

@@ -2,57 +2,77 @@
 use sbr_grid::SbrGrid;
 use sbr_grid::TimeGrid;
 use sbr_run::Place;
+ghost use mathlib.Core.Path.{_≡_};
+ghost use Prim.Native.Nat.{_≤_};
+ghost use Rattle.bits.specs.Bits.{bitN, numOf};
+ghost use Rattle.run_lines.specs.Number.{withDigit, withDigits, markNumber, frameNumber};
 
-// Borders in a number, five bits for each.
-fn borders_number(t_e: [u32; TimeGrid::MAX_BORDERS]) -> u64 {
-    let mut number = 0u64;
-    for i in 0..TimeGrid::MAX_BORDERS {
-        number = (number << 5) | (t_e[i] % 32) as u64;
-    }
-    number
+// A number with a digit of base 32 behind it.
+fn with_digit(number: u64, digit: u64) -> u64
+    ensures { λ r. ⌜ r ≡ withDigit number digit ⌝ }
+{
+    number % 0x800000000000000 * 32 + digit % 32
 }
 
-// Noise borders in a number, five bits for each.
-fn noise_number(t_q: [u32; TimeGrid::MAX_NOISE_BORDERS]) -> u64 {
-    let mut number = 0u64;
-    for i in 0..TimeGrid::MAX_NOISE_BORDERS {
-        number = (number << 5) | (t_q[i] % 32) as u64;
+fn wide(border: u32) -> u64
+    ensures { λ r. ⌜ r ≡ border ⌝ }
+{
+    border as u64
+}
+
+// A number with a digit for each border behind it.
+fn with_borders(number: u64, borders: &[u32]) -> u64
+    ensures { λ r. ⌜ r ≡ withDigits number (now (borders .entry)) ⌝ }
+{
+    let mut out = number;
+    for i in 0..borders.len() {
+        out = with_digit(out, wide(borders[i]));
     }
-    number
+    out
+}
+
+fn one(flag: bool) -> u64
+    ensures value { λ r. ⌜ r ≡ bitN flag ⌝ }
+    ensures small { λ r. ⌜ r ≤ 1 ⌝ }
+{
+    flag as u64
 }
 
 // Resolutions in a number, a bit for each.
-fn resolutions_number(freq_res: [bool; SbrGrid::MAX_NUM_ENV]) -> u64 {
-    let mut number = 0u64;
-    for i in 0..SbrGrid::MAX_NUM_ENV {
-        number = (number << 1) | freq_res[i] as u64;
-    }
-    number
+fn resolutions_number(freq_res: [bool; SbrGrid::MAX_NUM_ENV]) -> u64
+    ensures { λ r. ⌜ r ≡ numOf «freq_res» ⌝ }
+{
+    16 * one(freq_res[0])
+        + 8 * one(freq_res[1])
+        + 4 * one(freq_res[2])
+        + 2 * one(freq_res[3])
+        + one(freq_res[4])
 }
 
-// The marked envelope from 1 on; 0 for none.
-fn mark_number(mark: i32) -> u64 {
+// The marked envelope in a number.
+fn mark_number(mark: i32) -> u64
+    ensures { λ r. ⌜ r ≡ markNumber mark ⌝ }
+{
+    let size = case_io::magnitude(mark);
     if mark < 0 {
-        return 0;
+        return 2 * size - 1;
     }
-    case_io::whole(mark) % 7 + 1
+    2 * size
 }
 
-// A time grid in a number: count of envelopes, borders, noise borders and mark.
-fn times_number(time: TimeGrid) -> u64 {
-    let t_e = time.t_e;
-    let t_q = time.t_q;
-    let count = (time.num_env % 8) as u64;
-    let borders = (count << 30) | borders_number(t_e);
-    (((borders << 15) | noise_number(t_q)) << 3) | mark_number(time.l_a)
-}
-
-// A frame in a number: class, resolutions and time grid. No two frames that are sent or read have the same, as their borders are below 32.
-pub fn frame_number(grid: SbrGrid, time: TimeGrid) -> u64 {
+// A frame in a number: class, resolutions, count of envelopes, borders, noise borders and mark. Frames that differ in one of these have different
+// numbers, where each is below 32.
+pub fn frame_number(grid: SbrGrid, time: TimeGrid) -> u64
+    ensures { λ r. ⌜ r ≡ frameNumber grid time ⌝ }
+{
     let class = grid.frame_class;
     let freq_res = grid.freq_res;
-    let form = ((class.to_bits() as u64) << 5) | resolutions_number(freq_res);
-    (form << 51) | times_number(time)
+    let t_e = time.t_e;
+    let t_q = time.t_q;
+    let form = with_digit(class.to_bits() as u64, resolutions_number(freq_res));
+    let counted = with_digit(form, time.num_env as u64);
+    let borders = with_borders(with_borders(counted, &t_e), &t_q);
+    with_digit(borders, mark_number(time.l_a))
 }
 
 // A frame and the numbers of its rows.
@@ -66,17 +86,9 @@ pub fn print_frame(grid: SbrGrid, time: TimeGrid, rows: usize) {
     case_io::print_field(b" rows ", rows as u64);
 }
 
-fn print_border(border: i32) {
-    if border < 0 {
-        case_io::print(b" border below 0");
-    } else {
-        case_io::print_field(b" border ", case_io::whole(border));
-    }
-}
-
 // A position and a carried border.
 pub fn print_place(place: Place) {
     let carried = place.carried;
     case_io::print_field(b" at ", place.position as u64);
-    print_border(carried.border);
+    case_io::print_signed(b" border ", carried.border);
 }

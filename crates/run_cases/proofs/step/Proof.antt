@@ -1,6 +1,6 @@
-use native.Mathlib.Omega.{arith}
 use mathlib.Core.Path.{sym}
 use lib.Seq.{length-take-le}
+use native.Mathlib.Omega.{arith}
 use borrow.Author.Needs.{needs}
 use Rattle.run_cases.proofs.step.Statement.{statement}
 use Rattle.run_cases.proofs.step.Tie as tie
@@ -32,6 +32,15 @@ same-length c = search needs
 returns : tie.Need-returns
 returns c = search needs
 
+change-requires : tie.Need-change-requires
+change-requires c κs = search needs
+
+same-length-2 : tie.Need-same-length-2
+same-length-2 c = search needs
+
+returns-2 : tie.Need-returns-2
+returns-2 c = search needs
+
 slice-reshare-prefix-reading : tie.Need-slice-reshare-prefix-reading
 slice-reshare-prefix-reading c = search needs
 
@@ -47,11 +56,11 @@ slice-aggregate-print-2 c = search needs
 print-requires-2 : tie.Need-print-requires-2
 print-requires-2 c κs = search needs
 
-same-length-2 : tie.Need-same-length-2
-same-length-2 c = search needs
+same-length-3 : tie.Need-same-length-3
+same-length-3 c = search needs
 
-returns-2 : tie.Need-returns-2
-returns-2 c = search needs
+returns-3 : tie.Need-returns-3
+returns-3 c = search needs
 
 pub step-spec : {M : Type 1} → statement M
 step-spec =
@@ -66,10 +75,13 @@ step-spec =
     print-requires
     same-length
     returns
+    change-requires
+    same-length-2
+    returns-2
     slice-reshare-prefix-reading
     slice-aggregate-reading
     reading-requires
     slice-aggregate-print-2
     print-requires-2
-    same-length-2
-    returns-2)
+    same-length-3
+    returns-3)

@@ -1,46 +1,87 @@
-use Prim.Native.Nat.{_-_}
 use borrow.Author.Needs.{needs}
-use native.Mathlib.Omega.{arith}
+use Rattle.run_lines.proofs.Numbers.{five-bits}
 use Rattle.run_lines.proofs.resolutions_number.Statement.{statement}
 use Rattle.run_lines.proofs.resolutions_number.Tie as tie
 
-abbrev Inv-loop : tie.InvT-loop
-Inv-loop freq-res number₀ i₀ number i = Unit {0}
+array-read-one : tie.Need-array-read-one
+array-read-one c = search needs
 
-abbrev μ-loop : tie.MeasureT-loop
-μ-loop freq-res number₀ i₀ number i = 5 - i
+one-requires : tie.Need-one-requires
+one-requires c κs = search needs
 
-loop-holds : tie.Need-loop-holds Inv-loop μ-loop
-loop-holds c = tt
+mul-result : tie.Need-mul-result
+mul-result c = search needs
 
-array-read-number : tie.Need-array-read-number Inv-loop μ-loop
-array-read-number c = omega arith
+array-read-one-2 : tie.Need-array-read-one-2
+array-read-one-2 c = search needs
 
-cast-number : tie.Need-cast-number Inv-loop μ-loop
-cast-number c = omega arith
+one-requires-2 : tie.Need-one-requires-2
+one-requires-2 c κs = search needs
 
-add-i : tie.Need-add-i Inv-loop μ-loop
-add-i c = omega arith
+mul-result-2 : tie.Need-mul-result-2
+mul-result-2 c = search needs
 
-loop-less : tie.Need-loop-less Inv-loop μ-loop
-loop-less c = omega arith
+add-result : tie.Need-add-result
+add-result c = search needs
 
-loop-again : tie.Need-loop-again Inv-loop μ-loop
-loop-again c = tt
+array-read-one-3 : tie.Need-array-read-one-3
+array-read-one-3 c = search needs
 
-returns : tie.Need-returns Inv-loop μ-loop
-returns c = search needs
+one-requires-3 : tie.Need-one-requires-3
+one-requires-3 c κs = search needs
+
+mul-result-3 : tie.Need-mul-result-3
+mul-result-3 c = search needs
+
+add-result-2 : tie.Need-add-result-2
+add-result-2 c = search needs
+
+array-read-one-4 : tie.Need-array-read-one-4
+array-read-one-4 c = search needs
+
+one-requires-4 : tie.Need-one-requires-4
+one-requires-4 c κs = search needs
+
+mul-result-4 : tie.Need-mul-result-4
+mul-result-4 c = search needs
+
+add-result-3 : tie.Need-add-result-3
+add-result-3 c = search needs
+
+array-read-one-5 : tie.Need-array-read-one-5
+array-read-one-5 c = search needs
+
+one-requires-5 : tie.Need-one-requires-5
+one-requires-5 c κs = search needs
+
+add-result-4 : tie.Need-add-result-4
+add-result-4 c = search needs
+
+returns : tie.Need-returns
+returns c =
+    five-bits _ _ _ _ _ _ (c .before .before .before .before .before .good .0 .1 .0 .1) (c .before .before .before .before .one .ensures .0) (c .before .before .before .one2 .ensures .0)
+    (c .before .before .one3 .ensures .0) (c .before .one4 .ensures .0) (c .one5 .ensures .0)
 
 pub resolutions-number-spec : {M : Type 1} → statement M
 resolutions-number-spec =
     tie.close
     (tie.spec
-    Inv-loop
-    μ-loop
-    loop-holds
-    array-read-number
-    cast-number
-    add-i
-    loop-less
-    loop-again
+    array-read-one
+    one-requires
+    mul-result
+    array-read-one-2
+    one-requires-2
+    mul-result-2
+    add-result
+    array-read-one-3
+    one-requires-3
+    mul-result-3
+    add-result-2
+    array-read-one-4
+    one-requires-4
+    mul-result-4
+    add-result-3
+    array-read-one-5
+    one-requires-5
+    add-result-4
     returns)
