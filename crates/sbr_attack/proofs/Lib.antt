@@ -1,2 +1,2 @@
-pub mod AttackLists
+pub mod Segments
 pub mod AttackGrids

@@ -7,7 +7,8 @@ ghost use mathlib.Core.Option.{none, some};
 ghost use mathlib.Core.List.{[], _∷_, _++_, reverse};
 ghost use Prim.Native.Nat.{_+_, _-_, _≤_, _<_};
 ghost use Rattle.sbr_grid.specs.Grid.{recordOf};
-ghost use Rattle.sbr_build.specs.Build.{lengthList, varvarGrid};
+ghost use Rattle.sbr_build.specs.Build.{lengthList, lengthsOf, varvarGrid};
+ghost use Rattle.sbr_build.specs.Cases.{FrameBounds};
 ghost use Rattle.sbr_attack.specs.Attack.{evenSegments, alignedAttack, lateAttackVarvar, tailOf, doubleAttackGrid, fixvarSegs, varfixSegs, varfixMark, fixvarGrid, varfixGrid, variableGrid, lateOf, doubleOf};
 
 pub enum LateAttack {
@@ -33,7 +34,7 @@ pub struct DoubleGrid {
 // A span as lengths of 8 and a rest.
 fn even_segments(span: u32) -> Lengths
     requires { ⌜ span ≤ 24 ⌝ }
-    ensures { λ r. ⌜ (lengthList r ≡ evenSegments span) × (r .count ≤ 3) ⌝ }
+    ensures { λ r. ⌜ (r ≡ lengthsOf (evenSegments span)) × (r .count ≤ 3) ⌝ }
 {
     let mut segs = Lengths::none();
     let mut left = span;
@@ -54,7 +55,6 @@ fn aligned_attack(s: u32, lead: u32) -> u32
     if sp < lead + 2 { lead + 2 } else { sp }
 }
 
-// There is no such grid.
 fn not_late() -> LateGrid
     ensures { λ r. ⌜ r ≡ lateOf none ⌝ }
 {
@@ -77,7 +77,7 @@ fn late_grid(lead: u32, over: u32, segs: Lengths) -> LateGrid
 
 // One late onset after a variable lead.
 pub fn late_attack_varvar(s: u32, lead: u32, nts: u32) -> LateGrid
-    requires { ⌜ (4 ≤ s) × (s < nts) × (lead ≤ 3) × (15 ≤ nts) × (nts ≤ 16) ⌝ }
+    requires { ⌜ (4 ≤ s) × (s < nts) × FrameBounds nts lead ⌝ }
     ensures { λ r. ⌜ r ≡ lateOf (lateAttackVarvar s lead nts) ⌝ }
 {
     if lead == 0 {
@@ -106,7 +106,6 @@ fn tail_of(s2: u32, nts: u32) -> u32
     tail + tail % 2
 }
 
-// There is no such grid.
 fn not_double() -> DoubleGrid
     ensures { λ r. ⌜ r ≡ doubleOf none ⌝ }
 {
@@ -146,7 +145,7 @@ fn far_double(lead: u32, over: u32, segs: Lengths) -> DoubleGrid
 
 // Two onsets with an envelope of two slots each.
 pub fn double_attack_grid(s1: u32, s2: u32, lead: u32, nts: u32) -> DoubleGrid
-    requires { ⌜ (4 ≤ s1) × (s1 + 4 ≤ s2) × (s2 < nts) × (lead ≤ 3) × (15 ≤ nts) × (nts ≤ 16) ⌝ }
+    requires { ⌜ (4 ≤ s1) × (s1 + 4 ≤ s2) × (s2 < nts) × FrameBounds nts lead ⌝ }
     ensures { λ r. ⌜ r ≡ doubleOf (doubleAttackGrid s1 s2 lead nts) ⌝ }
 {
     let tail = tail_of(s2, nts);
@@ -154,7 +153,7 @@ pub fn double_attack_grid(s1: u32, s2: u32, lead: u32, nts: u32) -> DoubleGrid
         return not_double();
     }
     let t = s2 + 2 + tail;
-    if nts + 3 < t {
+    if nts + (SbrGrid::MAX_VAR_BORD as u32) < t {
         return not_double();
     }
     let sp1 = aligned_attack(s1, lead);
@@ -177,7 +176,7 @@ pub fn double_attack_grid(s1: u32, s2: u32, lead: u32, nts: u32) -> DoubleGrid
 // The lengths from the onset to the end, last first.
 fn fixvar_segs(rest: u32) -> Lengths
     requires { ⌜ rest ≤ 16 ⌝ }
-    ensures { λ r. ⌜ (lengthList r ≡ reverse (fixvarSegs rest)) × (1 ≤ r .count) × (r .count ≤ 3) ⌝ }
+    ensures { λ r. ⌜ (r ≡ lengthsOf (reverse (fixvarSegs rest))) × (1 ≤ r .count) × (r .count ≤ 3) ⌝ }
 {
     if rest <= 2 {
         return Lengths::none().push(rest);
@@ -212,7 +211,7 @@ fn fixvar_grid(s: u32, nts: u32) -> SbrGrid
 // The lengths from the lead to the onset.
 fn varfix_segs(span: u32) -> Lengths
     requires { ⌜ span ≤ 16 ⌝ }
-    ensures { λ r. ⌜ (lengthList r ≡ varfixSegs span) × (1 ≤ r .count) × (r .count ≤ 2) ⌝ }
+    ensures { λ r. ⌜ (r ≡ lengthsOf (varfixSegs span)) × (1 ≤ r .count) × (r .count ≤ 2) ⌝ }
 {
     if span <= 8 {
         return Lengths::none().push(span);
@@ -233,7 +232,7 @@ fn varfix_mark(k: usize, short: bool) -> usize
 
 // One onset after a variable lead: lengths from the lead up to it.
 fn varfix_grid(s: u32, lead: u32, nts: u32) -> SbrGrid
-    requires { ⌜ (4 ≤ s) × (s < nts) × (lead ≤ 3) × (15 ≤ nts) × (nts ≤ 16) ⌝ }
+    requires { ⌜ (4 ≤ s) × (s < nts) × FrameBounds nts lead ⌝ }
     ensures { λ r. ⌜ r ≡ recordOf (varfixGrid s lead nts) ⌝ }
 {
     let sp = aligned_attack(s, lead);
@@ -255,9 +254,9 @@ fn varfix_grid(s: u32, lead: u32, nts: u32) -> SbrGrid
     )
 }
 
-// One onset.
+// One onset: FixVar where the frame begins at 0, VarFix from a lead.
 pub fn variable_grid(s: u32, lead: u32, nts: u32) -> SbrGrid
-    requires { ⌜ (4 ≤ s) × (s < nts) × (lead ≤ 3) × (15 ≤ nts) × (nts ≤ 16) ⌝ }
+    requires { ⌜ (4 ≤ s) × (s < nts) × FrameBounds nts lead ⌝ }
     ensures { λ r. ⌜ r ≡ recordOf (variableGrid s lead nts) ⌝ }
 {
     if lead == 0 {

@@ -1,4 +1,4 @@
-pub mod BorderLists
-pub mod BorderShifts
-pub mod BorderWalks
-pub mod BorderFits
+pub mod Lists
+pub mod Shifts
+pub mod Walks
+pub mod FitCounts

@@ -6,9 +6,9 @@ ghost use mathlib.Core.Bool.{true, false};
 ghost use Prim.Native.Nat.{ℕ, _+_, _-_, _≤_, _<_};
 ghost use lib.ListN.{getD};
 ghost use Rattle.sbr_grid.specs.Grid.{first};
-ghost use Rattle.sbr_build.specs.Build.{lengthList};
+ghost use Rattle.sbr_build.specs.Build.{lengthsOf};
 ghost use Rattle.sbr_borders.specs.Borders.{shiftCount, place, price, places, prices, nextShifts, risesFrom, lastOr, leadingSteps, trailingSteps, evenOk, allEven, reaches, fit};
-ghost use Rattle.sbr_borders.specs.Wanted.{wantedList, InFrame, ShiftsFit, shiftsOf, fitOf};
+ghost use Rattle.sbr_borders.specs.Wanted.{wantedList, InFrame, ShiftsFit, nextOf, fitOf};
 
 // A wanted border: an onset, which may move one slot earlier, or the isolating border, which may move one slot either way.
 pub struct WantedBorder {
@@ -33,6 +33,7 @@ pub enum Further {
     Last,
 }
 
+// The shifts to go on with; zeros after the last.
 pub struct NextShifts {
     pub shifts: [u32; Wanted::MAX_WANTED],
     pub further: Further,
@@ -44,14 +45,14 @@ pub enum Fit {
     NoFit,
 }
 
-// How many shifts a border has.
+// Two shifts for an onset, three for the isolating border.
 fn shift_count(b: WantedBorder) -> u32
     ensures { λ r. ⌜ r ≡ shiftCount b ⌝ }
 {
     if b.onset { 2 } else { 3 }
 }
 
-// Where a shift puts a border.
+// Where a shift puts a border: 0 leaves it, 1 is one slot earlier, 2 one slot later.
 fn placed(b: WantedBorder, shift: u32) -> u32
     requires { ⌜ (1 ≤ b .slot) × (b .slot ≤ 32) ⌝ }
     ensures { λ r. ⌜ (r ≡ place b shift) × (r ≤ 33) ⌝ }
@@ -78,10 +79,10 @@ fn priced(b: WantedBorder, shift: u32) -> u32
     if b.onset { 2 } else { 1 }
 }
 
-// Where the shifts put the borders.
+// Where the shifts put the borders; places past the count are zero.
 pub fn borders_of(w: Wanted, shifts: [u32; Wanted::MAX_WANTED]) -> [u32; Wanted::MAX_WANTED]
     requires { ⌜ InFrame w ⌝ }
-    ensures { λ r. ⌜ first 0 (w .count) r ≡ places (wantedList w) (first 0 (w .count) shifts) ⌝ }
+    ensures { λ r. ⌜ r ≡ first 0 4 (places (wantedList w) (first 0 (w .count) shifts)) ⌝ }
     ensures { λ r. ⌜ ((i : ℕ) → i < w .count → getD r i 0 ≤ 33) ⌝ }
 {
     let mut out = [0u32; Wanted::MAX_WANTED];
@@ -92,7 +93,6 @@ pub fn borders_of(w: Wanted, shifts: [u32; Wanted::MAX_WANTED]) -> [u32; Wanted:
     out
 }
 
-// What the shifts cost.
 pub fn cost_of(w: Wanted, shifts: [u32; Wanted::MAX_WANTED]) -> u32
     requires { ⌜ w .count ≤ 4 ⌝ }
     ensures { λ r. ⌜ (r ≡ prices (wantedList w) (first 0 (w .count) shifts)) × (r ≤ 8) ⌝ }
@@ -108,7 +108,7 @@ pub fn cost_of(w: Wanted, shifts: [u32; Wanted::MAX_WANTED]) -> u32
 // The next shifts, the first border's turning fastest.
 pub fn next_shifts(w: Wanted, shifts: [u32; Wanted::MAX_WANTED]) -> NextShifts
     requires { ⌜ (w .count ≤ 4) × ShiftsFit (w .count) shifts ⌝ }
-    ensures { λ r. ⌜ shiftsOf (w .count) r ≡ nextShifts (wantedList w) (first 0 (w .count) shifts) ⌝ }
+    ensures { λ r. ⌜ r ≡ nextOf (nextShifts (wantedList w) (first 0 (w .count) shifts)) ⌝ }
     ensures { λ r. ⌜ ShiftsFit (w .count) (r .shifts) ⌝ }
 {
     let mut next = shifts;
@@ -245,7 +245,7 @@ pub fn leading_lengths(
     count: usize,
 ) -> Lengths
     requires { ⌜ (k ≤ count) × (count ≤ 4) × (lead ≤ 3) × ((i : ℕ) → i < count → getD borders i 0 ≤ 33) ⌝ }
-    ensures { λ r. ⌜ (lengthList r ≡ leadingSteps lead k (first 0 count borders)) × (r .count ≡ k) ⌝ }
+    ensures { λ r. ⌜ (r ≡ lengthsOf (leadingSteps lead k (first 0 count borders))) × (r .count ≡ k) ⌝ }
 {
     let mut out = Lengths::none();
     let mut last = lead;
@@ -257,7 +257,7 @@ pub fn leading_lengths(
     out
 }
 
-// The lengths from the end t down through the borders from k on.
+// The lengths from the end t down through the borders from k on: the last one first.
 pub fn trailing_lengths(
     t: u32,
     borders: [u32; Wanted::MAX_WANTED],
@@ -265,7 +265,7 @@ pub fn trailing_lengths(
     count: usize,
 ) -> Lengths
     requires { ⌜ (k ≤ count) × (count ≤ 4) × (t ≤ 33) × ((i : ℕ) → i < count → getD borders i 0 ≤ 33) ⌝ }
-    ensures { λ r. ⌜ (lengthList r ≡ trailingSteps t k (first 0 count borders)) × (r .count ≡ count - k) ⌝ }
+    ensures { λ r. ⌜ (r ≡ lengthsOf (trailingSteps t k (first 0 count borders))) × (r .count ≡ count - k) ⌝ }
 {
     let mut out = Lengths::none();
     let mut last = t;

@@ -1,2 +1,4 @@
-pub mod BuildLaws
-pub mod BuildLists
+pub mod LengthsOf
+pub mod OnsetsRecord
+pub mod GridOf
+pub mod Shares

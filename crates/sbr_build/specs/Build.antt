@@ -4,7 +4,7 @@ use mathlib.Core.Bool.{Bool, false, cond}
 use mathlib.Core.List.{List, [], _∷_, map}
 use Prim.Native.Nat.{ℕ, zero, suc, _+_, _-_, _/_, _%_, max, min}
 use lib.Dec.{leb, eqb}
-use lib.ListN.{length, replicate}
+use lib.ListN.{length, set, replicate}
 use Rattle.sbr_grid.specs.declared.FrameClass.{FrameClass}
 use Rattle.sbr_grid.specs.declared.FrameClass.the-variants.{FixFix, VarFix, VarVar}
 use Rattle.sbr_grid.specs.Grid.{byClass, noiseOf, first, Grid, made}
@@ -13,6 +13,14 @@ use Rattle.sbr_build.specs.declared.Lengths.{Lengths}
 -- the lengths of an array with a count
 abbrev pub lengthList : Lengths → List ℕ
 lengthList l = first 0 (l .count) (l .slots)
+
+-- the array and the count of lengths: places past the count are zero
+unfoldable pub lengthsOf : List ℕ → Lengths
+lengthsOf l = record { count = length l; slots = first 0 4 l }
+
+-- one more length behind the others
+unfoldable pub pushed : Lengths → ℕ → Lengths
+pushed l x = record { count = l .count + 1; slots = set (l .slots) (l .count) x }
 
 -- raw_rel: the stored form of a length, halved toward zero
 abbrev pub raw : ℕ → ℕ

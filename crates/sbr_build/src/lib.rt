@@ -3,11 +3,12 @@ use sbr_grid::FrameClass;
 use sbr_grid::SbrGrid;
 ghost use mathlib.Core.Path.{_≡_};
 ghost use mathlib.Core.Bool.{false};
-ghost use mathlib.Core.List.{[], _∷_, _++_, map};
+ghost use mathlib.Core.List.{[], _∷_, map};
 ghost use Prim.Native.Nat.{_+_, _-_, _≤_, _<_};
 ghost use lib.ListN.{replicate};
 ghost use Rattle.sbr_grid.specs.Grid.{first, recordOf};
-ghost use Rattle.sbr_build.specs.Build.{lengthList, raw, gridOf, fixfixGrid, varvarGrid, evenShare, shares, varfixPlain};
+ghost use Rattle.sbr_build.specs.Cases.{FrameBounds};
+ghost use Rattle.sbr_build.specs.Build.{lengthList, lengthsOf, pushed, raw, gridOf, fixfixGrid, varvarGrid, evenShare, shares, varfixPlain};
 
 // The onset slots of a frame, the first `count` places.
 pub struct Onsets {
@@ -28,7 +29,7 @@ pub struct Lengths {
 
 impl Lengths {
     pub fn none() -> Self
-        ensures { λ r. ⌜ (lengthList r ≡ []) × (r .count ≡ 0) ⌝ }
+        ensures { λ r. ⌜ (r ≡ lengthsOf []) × (r .count ≡ 0) ⌝ }
     {
         Lengths {
             count: 0,
@@ -39,7 +40,7 @@ impl Lengths {
     // One more length behind the others.
     pub fn push(self, len: u32) -> Self
         requires { ⌜ (self .count < 4) × (len ≤ 255) ⌝ }
-        ensures { λ r. ⌜ (lengthList r ≡ lengthList self ++ (len ∷ [])) × (r .count ≡ self .count + 1) ⌝ }
+        ensures { λ r. ⌜ (r ≡ pushed self len) × (r .count ≡ self .count + 1) ⌝ }
     {
         let at = self.count;
         let mut slots = self.slots;
@@ -51,10 +52,9 @@ impl Lengths {
     }
 }
 
-// Two lengths.
 pub fn two(a: u32, b: u32) -> Lengths
     requires { ⌜ (a ≤ 255) × (b ≤ 255) ⌝ }
-    ensures { λ r. ⌜ (lengthList r ≡ a ∷ b ∷ []) × (r .count ≡ 2) ⌝ }
+    ensures { λ r. ⌜ (r ≡ lengthsOf (a ∷ b ∷ [])) × (r .count ≡ 2) ⌝ }
 {
     Lengths::none().push(a).push(b)
 }
@@ -185,7 +185,7 @@ fn share(left: u32, remaining: u32) -> u32
 // The lengths that num_env envelopes write down of `span` slots.
 fn shared(num_env: usize, span: u32) -> Lengths
     requires { ⌜ (1 ≤ «num_env») × («num_env» ≤ 4) ⌝ }
-    ensures { λ r. ⌜ (lengthList r ≡ shares «num_env» span) × (r .count < «num_env») ⌝ }
+    ensures { λ r. ⌜ (r ≡ lengthsOf (shares «num_env» span)) × (r .count < «num_env») ⌝ }
 {
     let mut rel = Lengths::none();
     let mut left = span;
@@ -202,7 +202,7 @@ fn shared(num_env: usize, span: u32) -> Lengths
 
 // A VarFix grid from the lead, with num_env envelopes as even as the syntax allows, and no mark.
 pub fn varfix_plain(lead: u32, num_env: usize, nts: u32) -> SbrGrid
-    requires { ⌜ (1 ≤ «num_env») × («num_env» ≤ 4) × (lead ≤ 3) × (15 ≤ nts) × (nts ≤ 16) ⌝ }
+    requires { ⌜ (1 ≤ «num_env») × («num_env» ≤ 4) × FrameBounds nts lead ⌝ }
     ensures { λ r. ⌜ r ≡ recordOf (varfixPlain lead «num_env» nts) ⌝ }
 {
     let rel = shared(num_env, nts - lead);

@@ -10,7 +10,7 @@ use borrow.Author.Tests.{le-leb, lt-leb}
 use lib.ListN.{getD}
 use Rattle.sbr_grid.specs.declared.SbrGrid.{SbrGrid}
 use Rattle.sbr_grid.specs.Grid.{first, Grid, recordOf}
-use Rattle.sbr_grid.proofs.Laws.{length-first}
+use Rattle.sbr_grid.proofs.First.{first-length}
 use Rattle.sbr_build.specs.declared.Onsets.{Onsets}
 use Rattle.sbr_attack.specs.declared.LateAttack.the-variants.{Late, NotLate}
 use Rattle.sbr_attack.specs.declared.DoubleAttack.the-variants.{Double, NotDouble}
@@ -25,11 +25,11 @@ use Rattle.sbr_choice.specs.Choice.{solver, doubleFirst, attackGrid, pla
 
 -- with k onsets or more the search is made
 pub solver-many : (k lead n : ℕ) (o : Onsets) → k ≤ o .count → solver k (onsetList o) lead n ≡ multiOnsetGrid (onsetList o) lead n
-solver-many k lead n o h = rw (length-first 0 (o .count) (o .slot), le-leb k (o .count) h)
+solver-many k lead n o h = rw (first-length 0 (o .count) (o .slot), le-leb k (o .count) h)
 
 -- with fewer it is not
 pub solver-few : (k lead n : ℕ) (o : Onsets) → o .count < k → solver k (onsetList o) lead n ≡ none
-solver-few k lead n o h = rw (length-first 0 (o .count) (o .slot), lt-leb k (o .count) h)
+solver-few k lead n o h = rw (first-length 0 (o .count) (o .slot), lt-leb k (o .count) h)
 
 -- the next law, by whether there are three
 solver-by : (lead n : ℕ) (o : Onsets) → (o .count ≡ 2 → ⊥) → Dec (3 ≤ o .count) → solver 2 (onsetList o) lead n ≡ solver 3 (onsetList o) lead n

@@ -8,7 +8,7 @@ ghost use mathlib.Core.Path.{_≡_};
 ghost use Prim.Native.Nat.{_-_, _≤_, _<_};
 ghost use lib.ListN.{getD};
 ghost use Rattle.sbr_grid.specs.Grid.{recordOf};
-ghost use Rattle.sbr_build.specs.Cases.{Case, onsetList};
+ghost use Rattle.sbr_build.specs.Cases.{FrameBounds, Case, onsetList};
 ghost use Rattle.sbr_choice.specs.Choice.{attackGrid, plainGrid, chosenGrid};
 
 // Variable borders: the search for three onsets, then the double grid, the search for two onsets, the late grid, one onset's grid.
@@ -48,7 +48,7 @@ fn attack_grid(onsets: Onsets, lead: u32, nts: u32) -> SbrGrid
 
 // No variable borders but the lead.
 fn plain_grid(num_env: usize, high: bool, lead: u32, nts: u32) -> SbrGrid
-    requires { ⌜ (1 ≤ «num_env») × («num_env» ≤ 4) × (lead ≤ 3) × (15 ≤ nts) × (nts ≤ 16) ⌝ }
+    requires { ⌜ (1 ≤ «num_env») × («num_env» ≤ 4) × FrameBounds nts lead ⌝ }
     ensures { λ r. ⌜ r ≡ recordOf (plainGrid «num_env» high lead nts) ⌝ }
 {
     if lead == 0 {

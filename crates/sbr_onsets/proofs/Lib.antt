@@ -1,3 +1,3 @@
 pub mod OnsetSame
-pub mod OnsetLaws
+pub mod Onsets
 pub mod OnsetLead

@@ -15,7 +15,7 @@ use mir.ValLaws.{toZ-ofZ, toZ-pos}
 use Rattle.sbr_grid.specs.Times.{slotCount}
 use Rattle.sbr_build.specs.Cases.{Case}
 use Rattle.sbr_onsets.specs.Onsets.{clamped, leadOf, onsetsOf}
-use Rattle.sbr_onsets.proofs.OnsetLaws.{onsets-apart}
+use Rattle.sbr_onsets.proofs.Onsets.{onsets-apart}
 
 -- a number that is clamped is at most 3
 held-small : (z : ℤ) → clamped z ≤ 3

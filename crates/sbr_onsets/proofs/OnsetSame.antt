@@ -5,14 +5,12 @@ use Prim.Native.Nat.{ℕ, zero, suc, _+_, _-_, _/_, _≤_, _<_}
 use native.Mathlib.Omega.{arith}
 use native.Mathlib.Decide.{decLt}
 use borrow.Author.Tests.{lt-ltb, le-ltb}
-use lib.ListN.{getD}
 use lib.Ieee.{Float, nan}
 use Rattle.sbr_qmf.specs.Qmf.{SampleAt}
 use Rattle.sbr_floats.specs.Floats.{total}
 use Rattle.sbr_energy.specs.Energy.{slotEnergy, slotEnergies}
 use Rattle.sbr_energy.proofs.Laws.{energies-at}
-use Rattle.sbr_onsets.specs.Onsets.{peakOf, isAttack, onsetsFrom, detectOnsets, halvesAlike}
-use Rattle.sbr_onsets.specs.Onsets.{onsetsOf}
+use Rattle.sbr_onsets.specs.Onsets.{energyAt, peakOf, isAttack, onsetsFrom, detectOnsets, halvesAlike, onsetsOf}
 
 -- two functions agree below m
 abbrev pub Agree : (ℕ → Float) → (ℕ → Float) → ℕ → Type 0
@@ -76,13 +74,13 @@ halves-same e e′ n a =
 
 module _ (x : SampleAt) (kl kh n : ℕ) where
   -- up to its end the array holds the energies
-  energies-agree : Agree (λ i. getD (slotEnergies x kl kh (n + 8)) i nan) (slotEnergy x kl kh) (n + 8)
+  energies-agree : Agree (energyAt (slotEnergies x kl kh (n + 8))) (slotEnergy x kl kh) (n + 8)
   energies-agree i h = energies-at x kl kh (n + 8) i nan h
 
   -- the onsets from the array
-  pub onsets-array : onsetsOf (λ i. getD (slotEnergies x kl kh (n + 8)) i nan) n ≡ onsetsOf (slotEnergy x kl kh) n
+  pub onsets-array : onsetsOf (energyAt (slotEnergies x kl kh (n + 8))) n ≡ onsetsOf (slotEnergy x kl kh) n
   onsets-array = onsets-same _ _ n energies-agree
 
   -- the halves from the array
-  pub halves-array : halvesAlike (λ i. getD (slotEnergies x kl kh (n + 8)) i nan) n ≡ halvesAlike (slotEnergy x kl kh) n
+  pub halves-array : halvesAlike (energyAt (slotEnergies x kl kh (n + 8))) n ≡ halvesAlike (slotEnergy x kl kh) n
   halves-array = halves-same _ _ n (λ i h. energies-agree i (omega arith))

@@ -8,20 +8,17 @@ use native.Mathlib.Nat.{zero-add}
 use native.Mathlib.Decide.{decLt}
 use native.Mathlib.Numerals.{add-one}
 use borrow.Author.Tests.{lt-ltb, le-ltb}
-use lib.ListN.{length, getD, set, length-set}
-use lib.Seq.{take-suc-set}
+use lib.ListN.{length, set, replicate, length-set}
 use lib.Ieee as Ieee
-use lib.Ieee.{Float, binary64, nan}
+use lib.Ieee.{Float, binary64}
 use Rattle.sbr_grid.specs.Grid.{first}
-use Rattle.sbr_grid.proofs.Laws.{first-take}
+use Rattle.sbr_grid.proofs.First.{first-push, first-fill}
 use Rattle.sbr_floats.specs.Floats.{maxOf, minOf, total, meanOf, floor64}
-use Rattle.sbr_build.specs.Cases.{OnsetsFrom}
-use Rattle.sbr_onsets.specs.Onsets.{eight, nano, tenth, one64, half, two64, peakOf, isAttack, onsetsFrom, detectOnsets, halvesAlike}
+use Rattle.sbr_build.specs.declared.Onsets.{Onsets}
+use Rattle.sbr_build.specs.Cases.{onsetList, onsetsRecord, OnsetsFrom}
+use Rattle.sbr_build.proofs.OnsetsRecord.{onsets-few, onsets-list, onsets-made}
+use Rattle.sbr_onsets.specs.Onsets.{energyAt, eight, nano, tenth, one64, half, two64, peakOf, isAttack, onsetsFrom, detectOnsets, halvesAlike}
 use Rattle.sbr_onsets.proofs.OnsetSame.{total-same}
-
--- the energies of an array
-abbrev pub energyAt : List Float → ℕ → Float
-energyAt e i = getD e i nan
 
 -- one energy more
 pub peak-more : (e : ℕ → Float) (n : ℕ) (peak top : Float) → peak ≡ peakOf e n → top ≡ maxOf peak (e n) → top ≡ peakOf e (n + 1)
@@ -82,44 +79,53 @@ unfolding onsetsFrom
 onsets-miss f zero k s n g h e = absurd (omega arith)
 onsets-miss f (suc j) k s n g h e = rw (lt-ltb s n h, e, onsets-fuel f j (suc j) (suc k) (s + 1) n (omega arith) (omega arith))
 
--- the onsets found so far, and those from slot s on, are those of the frame
-abbrev pub Scan : (ℕ → Bool) → ℕ → ℕ → List ℕ → ℕ → Type 0
-Scan f n count slot s = first 0 count slot ++ onsetsFrom f n (3 - count) s n ≡ detectOnsets f n
+-- the onsets found so far in the array, zeros past them, and those from slot s on, are those of the frame
+pub record Scan (f : ℕ → Bool) (n count : ℕ) (slot : List ℕ) (s : ℕ) : Type 0 where
+  pub few : count ≤ 3
+  pub size : length slot ≡ 3
+  pub padded : slot ≡ first 0 3 (first 0 count slot)
+  pub rest : first 0 count slot ++ onsetsFrom f n (3 - count) s n ≡ detectOnsets f n
 
 -- before the first slot
-pub scan-none : (f : ℕ → Bool) (n : ℕ) (slot : List ℕ) → Scan f n 0 slot 4
+pub scan-none : (f : ℕ → Bool) (n : ℕ) → Scan f n 0 (replicate 3 0) 4
 unfolding detectOnsets
-scan-none f n slot = refl
+scan-none f n = record { few = omega arith; size = refl; padded = refl; rest = refl }
 
--- one onset more in the array
-pub first-more : (count v : ℕ) (slot : List ℕ) → count < length slot → first 0 (count + 1) (set slot count v) ≡ first 0 count slot ++ (v ∷ [])
-first-more count v slot h =
-    rw (first-take 0 (count + 1) (set slot count v) (rw (length-set slot count v) (omega arith)), first-take 0 count slot (omega arith), add-one count)
-    (take-suc-set slot count v h)
+module _ {f : ℕ → Bool} {n count : ℕ} {slot : List ℕ} {s : ℕ} (q : Scan f n count slot s) where
+  -- past a slot with an onset
+  pub scan-hit : count < 3 → s < n → f s ≡ true → Scan f n (count + 1) (set slot count s) (s + 4)
+  scan-hit h g e =
+      let p : 3 - count ≡ suc (3 - (count + 1)) = omega arith in
+      record {
+        few = omega arith;
+        size = length-set slot count s ∙ q .size;
+        padded = first-fill 0 3 count slot s (q .size) h (q .padded);
+        rest = rw (first-push 0 count slot s (omega (arith, q .size)), append-assoc)
+            (rw (p, onsets-hit f n (3 - (count + 1)) s n (omega arith) g e) at (q .rest));
+      }
 
--- past a slot with an onset
-pub scan-hit : (f : ℕ → Bool) (n count : ℕ) (slot : List ℕ) (s : ℕ) → length slot ≡ 3 → count < 3 → s < n → f s ≡ true → Scan f n count slot s
-    → Scan f n (count + 1) (set slot count s) (s + 4)
-scan-hit f n count slot s l h g e q =
-    let p : 3 - count ≡ suc (3 - (count + 1)) = omega arith in
-    rw (first-more count s slot (omega arith), append-assoc)
-    (rw (p, onsets-hit f n (3 - (count + 1)) s n (omega arith) g e) at q)
+  -- past a slot without one
+  pub scan-miss : count < 3 → s < n → f s ≡ false → Scan f n count slot (s + 1)
+  scan-miss h g e =
+      let p : 3 - count ≡ suc (3 - (count + 1)) = omega arith in
+      record {
+        few = q .few;
+        size = q .size;
+        padded = q .padded;
+        rest = rw p (rw (p, onsets-miss f n (3 - (count + 1)) s n (omega arith) g e) at (q .rest));
+      }
 
--- past a slot without one
-pub scan-miss : (f : ℕ → Bool) (n count : ℕ) (slot : List ℕ) (s : ℕ) → count < 3 → s < n → f s ≡ false → Scan f n count slot s → Scan f n count slot (s + 1)
-scan-miss f n count slot s h g e q =
-    let p : 3 - count ≡ suc (3 - (count + 1)) = omega arith in
-    rw p (rw (p, onsets-miss f n (3 - (count + 1)) s n (omega arith) g e) at q)
+  -- no onset is left: the array holds those of the frame
+  scan-made : onsetsFrom f n (3 - count) s n ≡ [] → _≡_ {A = Onsets} (record { count = count; slot = slot }) (onsetsRecord (detectOnsets f n))
+  scan-made e = onsets-made count slot (detectOnsets f n) (q .padded) (sym (append-nil (first 0 count slot)) ∙ (rw e at (q .rest)))
 
--- the slots end
-pub scan-end : (f : ℕ → Bool) (n count : ℕ) (slot : List ℕ) (s : ℕ) → n ≤ s → Scan f n count slot s → first 0 count slot ≡ detectOnsets f n
-scan-end f n count slot s h q = sym (append-nil (first 0 count slot)) ∙ (rw (onsets-end f n (3 - count) s n h) at q)
+  -- the slots end
+  pub scan-end : n ≤ s → _≡_ {A = Onsets} (record { count = count; slot = slot }) (onsetsRecord (detectOnsets f n))
+  scan-end h = scan-made (onsets-end f n (3 - count) s n h)
 
--- three onsets are found
-pub scan-full : (f : ℕ → Bool) (n count : ℕ) (slot : List ℕ) (s : ℕ) → count ≡ 3 → Scan f n count slot s → first 0 count slot ≡ detectOnsets f n
-scan-full f n count slot s h q =
-    let p : 3 - count ≡ 0 = omega arith in
-    sym (append-nil (first 0 count slot)) ∙ (rw (p, onsets-full f n s n) at q)
+  -- three onsets are found
+  pub scan-full : 3 ≤ count → _≡_ {A = Onsets} (record { count = count; slot = slot }) (onsetsRecord (detectOnsets f n))
+  scan-full h = let p : 3 - count ≡ 0 = omega arith in scan-made (rw p (onsets-full f n s n))
 
 -- ---- what a list of onsets is
 
@@ -146,3 +152,7 @@ onsets-lie f (suc j) (suc k) lo s n h = elim (decLt s n) [
 pub onsets-apart : (f : ℕ → Bool) (n : ℕ) → OnsetsFrom 3 4 n (detectOnsets f n)
 unfolding detectOnsets
 onsets-apart f n = onsets-lie f n 3 4 4 n (omega arith)
+
+-- the list of them in the array that holds them
+pub onsets-listed : {r : Onsets} (f : ℕ → Bool) (n : ℕ) → r ≡ onsetsRecord (detectOnsets f n) → onsetList r ≡ detectOnsets f n
+onsets-listed f n e = onsets-list e (onsets-few 3 4 n (detectOnsets f n) (onsets-apart f n))

@@ -4,10 +4,15 @@ use mathlib.Core.Bool.{Bool, cond, _&&_}
 use mathlib.Core.List.{List, [], _∷_}
 use Prim.Native.Nat.{ℕ, zero, suc, _+_, _-_, _/_, min}
 use lib.Dec.{ltb}
+use lib.ListN.{getD}
 use lib.IntN.{ℤ, pos, negsuc, _-ℤ_}
 use lib.Ieee as Ieee
-use lib.Ieee.{Float, binary64, ofBits}
+use lib.Ieee.{Float, binary64, nan, ofBits}
 use Rattle.sbr_floats.specs.Floats.{zero64, floor64, maxOf, minOf, total, meanOf}
+
+-- the slot energies in an array
+abbrev pub energyAt : List Float → ℕ → Float
+energyAt e i = getD e i nan
 
 -- 8.0, 1e-9, 0.1, 1.0, 0.5, 2.0
 abbrev pub eight : Float

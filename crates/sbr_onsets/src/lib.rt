@@ -4,17 +4,15 @@ use sbr_grid::SbrGrid;
 ghost use mathlib.Core.Path.{_≡_};
 ghost use mathlib.Core.Bool.{true};
 ghost use Prim.Native.Nat.{_+_, _-_, _≤_, _<_};
-ghost use lib.ListN.{getD};
-ghost use lib.Ieee.{nan};
 ghost use Rattle.sbr_floats.specs.Floats.{total};
-ghost use Rattle.sbr_build.specs.Cases.{onsetList};
+ghost use Rattle.sbr_build.specs.Cases.{onsetList, onsetsRecord};
 ghost use Rattle.sbr_grid.specs.Times.{slotCount};
-ghost use Rattle.sbr_onsets.specs.Onsets.{peakOf, isAttack, detectOnsets, halvesAlike, onsetsOf, leadOf};
+ghost use Rattle.sbr_onsets.specs.Onsets.{energyAt, peakOf, isAttack, detectOnsets, halvesAlike, onsetsOf, leadOf};
 
 // The largest of the first n energies, from 0.
 fn peak_of(e: &[f64; 24], n: usize) -> f64
     requires { ⌜ n ≤ 24 ⌝ }
-    ensures { λ r. ⌜ r ≡ peakOf (λ i. getD (now (e .entry)) i nan) n ⌝ }
+    ensures { λ r. ⌜ r ≡ peakOf (energyAt (now (e .entry))) n ⌝ }
 {
     let mut peak = 0.0;
     for i in 0..n {
@@ -26,7 +24,7 @@ fn peak_of(e: &[f64; 24], n: usize) -> f64
 // The sum of the n energies from slot s on.
 fn sum_of(e: &[f64; 24], s: usize, n: usize) -> f64
     requires { ⌜ s + n ≤ 24 ⌝ }
-    ensures { λ r. ⌜ r ≡ total (λ i. getD (now (e .entry)) (s + i) nan) n ⌝ }
+    ensures { λ r. ⌜ r ≡ total (λ i. energyAt (now (e .entry)) (s + i)) n ⌝ }
 {
     let mut sum = 0.0;
     for i in 0..n {
@@ -38,7 +36,7 @@ fn sum_of(e: &[f64; 24], s: usize, n: usize) -> f64
 // Whether slot s is an onset: above 8 times the smaller of two means before it, above a tenth of the peak, above 64.
 fn is_attack(e: &[f64; 24], peak: f64, s: usize) -> bool
     requires { ⌜ (4 ≤ s) × (s < 24) ⌝ }
-    ensures { λ r. ⌜ r ≡ isAttack (λ i. getD (now (e .entry)) i nan) peak s ⌝ }
+    ensures { λ r. ⌜ r ≡ isAttack (energyAt (now (e .entry))) peak s ⌝ }
 {
     let before_4 = sbr_floats::mean(sum_of(e, s - 4, 4), 4);
     let before_2 = sbr_floats::mean(sum_of(e, s - 2, 2), 2);
@@ -50,7 +48,7 @@ fn is_attack(e: &[f64; 24], peak: f64, s: usize) -> bool
 // The onsets before slot nts, the first from slot 4 on, each 4 or more after the one before.
 fn detect_onsets(e: &[f64; 24], peak: f64, nts: usize) -> Onsets
     requires { ⌜ nts ≤ 16 ⌝ }
-    ensures { λ r. ⌜ onsetList r ≡ detectOnsets (isAttack (λ i. getD (now (e .entry)) i nan) peak) nts ⌝ }
+    ensures { λ r. ⌜ r ≡ onsetsRecord (detectOnsets (isAttack (energyAt (now (e .entry))) peak) nts) ⌝ }
 {
     let mut count = 0;
     let mut slot = [0u32; Onsets::MAX_ONSETS];
@@ -70,7 +68,7 @@ fn detect_onsets(e: &[f64; 24], peak: f64, nts: usize) -> Onsets
 // The onsets of a frame, the peak taken over 8 slots more.
 pub fn onsets_of(e: &[f64; 24], nts: usize) -> Onsets
     requires { ⌜ nts ≤ 16 ⌝ }
-    ensures { λ r. ⌜ onsetList r ≡ onsetsOf (λ i. getD (now (e .entry)) i nan) nts ⌝ }
+    ensures { λ r. ⌜ onsetList r ≡ onsetsOf (energyAt (now (e .entry))) nts ⌝ }
 {
     detect_onsets(e, peak_of(e, nts + 8), nts)
 }
@@ -78,7 +76,7 @@ pub fn onsets_of(e: &[f64; 24], nts: usize) -> Onsets
 // Whether the energies of the two halves of a frame are alike.
 pub fn halves_alike(e: &[f64; 24], nts: usize) -> bool
     requires { ⌜ nts ≤ 16 ⌝ }
-    ensures { λ r. ⌜ r ≡ halvesAlike (λ i. getD (now (e .entry)) i nan) nts ⌝ }
+    ensures { λ r. ⌜ r ≡ halvesAlike (energyAt (now (e .entry))) nts ⌝ }
 {
     let half = nts / 2;
     let first = sum_of(e, 0, half) + 1.0;

@@ -1,3 +1,3 @@
-pub mod SearchEnds
-pub mod SearchFrames
-pub mod SearchCases
+pub mod TryEnds
+pub mod Bounds
+pub mod Bare

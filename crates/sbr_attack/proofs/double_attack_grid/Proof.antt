@@ -1,4 +1,3 @@
--- `sbr_build::double_attack_grid` meets its contract.
 use mathlib.Core.Path.{_≡_, refl}
 use mathlib.Core.Bool.{true, _&&_, and-false}
 use Prim.Native.Nat.{_+_, _-_}
@@ -6,7 +5,7 @@ use native.Mathlib.Omega.{arith}
 use borrow.Author.Tests.{le-leb, lt-leb, eq-eqb, ne-eqb}
 use borrow.Author.Needs.{needs}
 use lib.Dec.{leb}
-use Rattle.sbr_grid.proofs.Laws.{length-first}
+use Rattle.sbr_build.proofs.LengthsOf.{lengths-count, lengths-list}
 use Rattle.sbr_attack.proofs.AttackGrids.{double-from}
 use Rattle.sbr_attack.proofs.double_attack_grid.Statement.{statement}
 use Rattle.sbr_attack.proofs.double_attack_grid.Tie as tie
@@ -44,6 +43,9 @@ add-t c = search needs
 
 add-t-2 : tie.Need-add-t-2
 add-t-2 c = search needs
+
+cast-if2 : tie.Need-cast-if2
+cast-if2 c = search needs
 
 add-if2 : tie.Need-add-if2
 add-if2 c = search needs
@@ -150,12 +152,12 @@ returns-6 c =
     let a = t .before .args in
     let r = q .even-segments .result in
     rw (
-      double-from (a .s1) (a .s2) (a .lead) (a .nts) _ _ _ (t .tail-of .ensures .0) (p .aligned-attack .ensures .0) (q .even-segments .ensures .0),
+      double-from (a .s1) (a .s2) (a .lead) (a .nts) _ _ _ (t .tail-of .ensures .0) (p .aligned-attack .ensures .0) (lengths-list (q .even-segments .ensures .0) (omega arith)),
       ends (p .before),
       apart e,
       lt-leb (p .aligned-attack .result - a .lead) 8 (q .before .before .if4 .left),
       le-leb (a .nts) (a .s2 + 2) (omega arith),
-      length-first 0 (r .count) (r .slots),
+      lengths-count r,
       ne-eqb (r .count) 2 (c .before .if6 .taken),
       c .not-double5 .ensures,
     )
@@ -178,12 +180,12 @@ returns-7 c =
     let a = t .before .args in
     let r = q .even-segments .result in
     rw (
-      double-from (a .s1) (a .s2) (a .lead) (a .nts) _ _ _ (t .tail-of .ensures .0) (p .aligned-attack .ensures .0) (q .even-segments .ensures .0),
+      double-from (a .s1) (a .s2) (a .lead) (a .nts) _ _ _ (t .tail-of .ensures .0) (p .aligned-attack .ensures .0) (lengths-list (q .even-segments .ensures .0) (omega arith)),
       ends (p .before),
       apart e,
       lt-leb (p .aligned-attack .result - a .lead) 8 (q .before .before .if4 .left),
       le-leb (a .nts) (a .s2 + 2) (omega arith),
-      length-first 0 (r .count) (r .slots),
+      lengths-count r,
       eq-eqb (r .count) 2 (c .before .if6 .left),
       c .far-double .ensures,
     )
@@ -197,6 +199,7 @@ double-attack-grid-spec =
     returns
     add-t
     add-t-2
+    cast-if2
     add-if2
     not-double-requires-2
     returns-2

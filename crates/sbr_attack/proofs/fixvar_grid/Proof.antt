@@ -1,10 +1,9 @@
--- `sbr_build::fixvar_grid` meets its contract.
 use mathlib.Core.Path.{_≡_}
 use mathlib.Core.Logic.{⊎-elim}
 use Prim.Native.Nat.{_+_, _-_, _%_, max}
 use native.Mathlib.Omega.{arith}
 use borrow.Author.Needs.{needs}
-use Rattle.sbr_grid.proofs.Laws.{length-first}
+use Rattle.sbr_build.proofs.LengthsOf.{lengths-count, lengths-list}
 use Rattle.sbr_build.specs.Build.{lengthList}
 use Rattle.sbr_attack.proofs.AttackGrids.{fixvar-from}
 use Rattle.sbr_attack.proofs.fixvar_grid.Statement.{statement}
@@ -47,8 +46,8 @@ returns c =
     let j = p .before .before in
     let a = j .before .args in
     let r = p .fixvar-segs .result in
-    rw (fixvar-from (a .s) (a .nts) _ (lengthList r) (r .count + 1) (end j) (p .fixvar-segs .ensures .0) (omega (arith, length-first 0 (r .count) (r .slots))))
-    (rw (c .before .none .ensures .0) at (c .grid-of .ensures))
+    rw (fixvar-from (a .s) (a .nts) _ (lengthList r) (r .count + 1) (end j) (lengths-list (p .fixvar-segs .ensures .0) (omega arith)) (omega (arith, lengths-count r)))
+    (rw (lengths-list (c .before .none .ensures .0) (omega arith)) at (c .grid-of .ensures))
 
 pub fixvar-grid-spec : {M : Type 1} → statement M
 fixvar-grid-spec =

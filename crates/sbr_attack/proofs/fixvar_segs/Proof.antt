@@ -1,6 +1,7 @@
--- `sbr_build::fixvar_segs` meets its contract.
+use native.Mathlib.Omega.{arith}
 use borrow.Author.Tests.{le-leb, lt-leb}
 use borrow.Author.Needs.{needs}
+use Rattle.sbr_build.proofs.LengthsOf.{lengths-push}
 use Rattle.sbr_attack.specs.Attack.{fixvarSegs}
 use Rattle.sbr_attack.proofs.fixvar_segs.Statement.{statement}
 use Rattle.sbr_attack.proofs.fixvar_segs.Tie as tie
@@ -15,7 +16,7 @@ returns : tie.Need-returns
 unfolding fixvarSegs
 returns c =
     let b = c .before in
-    (rw (le-leb _ 2 (b .before .if1 .taken), c .push .ensures .0, b .none .ensures .0), search needs, search needs)
+    (rw (le-leb _ 2 (b .before .if1 .taken)) (lengths-push _ _ (b .none .ensures .0) (omega arith) (c .push .ensures .0)), search needs, search needs)
 
 sub-two : tie.Need-sub-two
 sub-two c = search needs
@@ -27,7 +28,7 @@ returns-2 : tie.Need-returns-2
 unfolding fixvarSegs
 returns-2 c =
     let b = c .before in
-    (rw (lt-leb _ 2 (b .before .if1 .left), le-leb _ 10 (b .if2 .taken), c .two .ensures .0), search needs, search needs)
+    (rw (lt-leb _ 2 (b .before .if1 .left), le-leb _ 10 (b .if2 .taken)) (c .two .ensures .0), search needs, search needs)
 
 sub-two-2 : tie.Need-sub-two-2
 sub-two-2 c = search needs
@@ -42,7 +43,8 @@ returns-3 : tie.Need-returns-3
 unfolding fixvarSegs
 returns-3 c =
     let b = c .before .before in (
-      rw (lt-leb _ 2 (b .before .if1 .left), lt-leb _ 10 (b .if2 .left), c .push2 .ensures .0, c .before .two2 .ensures .0),
+      rw (lt-leb _ 2 (b .before .if1 .left), lt-leb _ 10 (b .if2 .left))
+          (lengths-push _ _ (c .before .two2 .ensures .0) (omega arith) (c .push2 .ensures .0)),
       search needs,
       search needs,
     )

@@ -1,10 +1,9 @@
--- `sbr_build::late_attack_varvar` meets its contract.
 use mathlib.Core.Path.{refl}
 use Prim.Native.Nat.{_+_, _-_}
 use native.Mathlib.Omega.{arith}
 use borrow.Author.Tests.{lt-ltb, le-ltb, le-leb, lt-leb}
 use borrow.Author.Needs.{needs}
-use Rattle.sbr_grid.proofs.Laws.{length-first}
+use Rattle.sbr_build.proofs.LengthsOf.{lengths-count, lengths-list}
 use Rattle.sbr_attack.proofs.AttackGrids.{late-from}
 use Rattle.sbr_attack.proofs.late_attack_varvar.Statement.{statement}
 use Rattle.sbr_attack.proofs.late_attack_varvar.Tie as tie
@@ -71,11 +70,11 @@ returns-4 c =
     let a = p .before .before .args in
     let r = q .even-segments .result in
     rw (
-      late-from (a .s) (a .lead) (a .nts) _ _ (p .aligned-attack .ensures .0) (q .even-segments .ensures .0),
+      late-from (a .s) (a .lead) (a .nts) _ _ (p .aligned-attack .ensures .0) (lengths-list (q .even-segments .ensures .0) (omega arith)),
       lt-ltb 0 (a .lead) (omega arith),
       le-leb (a .nts) (p .aligned-attack .result + 2) (omega arith),
       le-leb (p .aligned-attack .result + 3) (a .nts + 3) (omega arith),
-      length-first 0 (r .count) (r .slots),
+      lengths-count r,
       lt-leb (r .count + 1) 3 (omega arith),
       c .not-late4 .ensures,
     )
@@ -96,11 +95,11 @@ returns-5 c =
     let a = p .before .before .args in
     let r = q .even-segments .result in
     rw (
-      late-from (a .s) (a .lead) (a .nts) _ _ (p .aligned-attack .ensures .0) (q .even-segments .ensures .0),
+      late-from (a .s) (a .lead) (a .nts) _ _ (p .aligned-attack .ensures .0) (lengths-list (q .even-segments .ensures .0) (omega arith)),
       lt-ltb 0 (a .lead) (omega arith),
       le-leb (a .nts) (p .aligned-attack .result + 2) (omega arith),
       le-leb (p .aligned-attack .result + 3) (a .nts + 3) (omega arith),
-      length-first 0 (r .count) (r .slots),
+      lengths-count r,
       le-leb (r .count + 1) 3 (omega arith),
       c .late-grid .ensures,
     )

@@ -1,5 +1,6 @@
--- `sbr_build::near_double` meets its contract.
+use native.Mathlib.Omega.{arith}
 use borrow.Author.Needs.{needs}
+use Rattle.sbr_build.proofs.LengthsOf.{lengths-list}
 use Rattle.sbr_attack.proofs.near_double.Statement.{statement}
 use Rattle.sbr_attack.proofs.near_double.Tie as tie
 
@@ -13,7 +14,9 @@ varvar-grid-requires : tie.Need-varvar-grid-requires
 varvar-grid-requires c κs = search needs
 
 returns : tie.Need-returns
-returns c = rw (c .varvar-grid .ensures, c .before .two2 .ensures .0, c .before .before .two .ensures .0)
+returns c =
+    let b = c .before in
+    rw (c .varvar-grid .ensures, lengths-list (b .two2 .ensures .0) (omega arith), lengths-list (b .before .two .ensures .0) (omega arith))
 
 pub near-double-spec : {M : Type 1} → statement M
 near-double-spec = tie.close (tie.spec two-requires two-requires-2 varvar-grid-requires returns)

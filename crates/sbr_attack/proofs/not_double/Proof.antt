@@ -1,4 +1,3 @@
--- `sbr_build::not_double` meets its contract.
 use borrow.Author.Needs.{needs}
 use Rattle.sbr_attack.proofs.not_double.Statement.{statement}
 use Rattle.sbr_attack.proofs.not_double.Tie as tie

@@ -1,4 +1,3 @@
--- `sbr_build::not_late` meets its contract.
 use borrow.Author.Needs.{needs}
 use Rattle.sbr_attack.proofs.not_late.Statement.{statement}
 use Rattle.sbr_attack.proofs.not_late.Tie as tie

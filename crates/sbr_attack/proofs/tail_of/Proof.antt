@@ -1,4 +1,3 @@
--- `sbr_build::tail_of` meets its contract.
 use mathlib.Core.Path.{_≡_}
 use mathlib.Core.Logic.{⊎-elim}
 use Prim.Native.Nat.{_+_, _-_, max}

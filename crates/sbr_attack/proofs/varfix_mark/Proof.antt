@@ -1,4 +1,3 @@
--- `sbr_build::varfix_mark` meets its contract.
 use Prim.Native.Nat.{_-_}
 use native.Mathlib.Omega.{arith}
 use borrow.Author.Needs.{needs}

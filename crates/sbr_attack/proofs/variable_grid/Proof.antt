@@ -1,4 +1,3 @@
--- `sbr_build::variable_grid` meets its contract.
 use borrow.Author.Tests.{eq-eqb, ne-eqb}
 use borrow.Author.Needs.{needs}
 use Rattle.sbr_attack.specs.Attack.{variableGrid}

@@ -1,21 +1,21 @@
-use mathlib.Core.Path.{_≡_, refl}
+use mathlib.Core.Path.{_≡_}
 use Prim.Native.Nat.{ℕ, _+_, _-_, _≤_, _<_}
 use native.Mathlib.Omega.{arith}
-use lib.ListN.{length, getD, length-set}
+use lib.ListN.{getD}
 use Rattle.sbr_borders.specs.Borders.{onsetAt}
-use Rattle.sbr_borders.proofs.BorderShifts.{noBorder, border-at, put-below, Places, places-begin, places-next, places-end}
+use Rattle.sbr_borders.proofs.Shifts.{noBorder, border-at, put-below, Places, places-begin, places-next, places-end}
 use Rattle.sbr_borders.proofs.borders_of.Statement.{statement}
 use Rattle.sbr_borders.proofs.borders_of.Tie as tie
 
 abbrev Inv-loop : tie.InvT-loop
 Inv-loop w shifts out₀ i₀ i-end out i =
-    (i ≤ w .count) × (length out ≡ 4) × ((j : ℕ) → j < i → getD out j 0 ≤ 33) × Places (w .count) (w .border) shifts i out
+    (i ≤ w .count) × ((j : ℕ) → j < i → getD out j 0 ≤ 33) × Places (w .count) (w .border) shifts i out
 
 abbrev μ-loop : tie.MeasureT-loop
 μ-loop w shifts out₀ i₀ i-end out i = w .count - i
 
 loop-holds : tie.Need-loop-holds Inv-loop μ-loop
-loop-holds c = (omega arith, refl, λ j h. absurd (omega arith), places-begin _ _ _ _)
+loop-holds c = (omega arith, λ j h. absurd (omega arith), places-begin _ _ _)
 
 mul-b : tie.Need-mul-b Inv-loop μ-loop
 mul-b c = omega arith
@@ -56,15 +56,14 @@ loop-again c =
     let s = c .before .before .before in
     let i = s .loop .i in (
       omega arith,
-      simp length-set (s .loop .inv .1),
-      put-below 33 (i + 1) (s .loop .out) i _ (omega arith) (c .placed .ensures .1) (λ j l n. s .loop .inv .2 j (omega arith)),
-      places-next (s .loop .inv .3) _ (omega arith) (omega arith) (rw (border (s .before) i (omega arith)) at (c .placed .ensures .0)),
+      put-below 33 (i + 1) (s .loop .out) i _ (omega arith) (c .placed .ensures .1) (λ j l n. s .loop .inv .1 j (omega arith)),
+      places-next (s .loop .inv .2) _ (omega arith) (omega arith) (rw (border (s .before) i (omega arith)) at (c .placed .ensures .0)),
     )
 
 returns : tie.Need-returns Inv-loop μ-loop
 returns c =
     let s = c .before .loop in
-    (places-end (s .inv .3) (omega arith), λ j h. s .inv .2 j (omega arith))
+    (places-end (s .inv .2) (omega arith), λ j h. s .inv .1 j (omega arith))
 
 pub borders-of-spec : {M : Type 1} → statement M
 borders-of-spec =

@@ -4,7 +4,7 @@ use native.Mathlib.Omega.{arith}
 use borrow.Author.Needs.{needs}
 use lib.ListN.{getD}
 use Rattle.sbr_borders.specs.Borders.{onsetAt}
-use Rattle.sbr_borders.proofs.BorderShifts.{noBorder, border-at, Prices, prices-begin, prices-next, prices-end}
+use Rattle.sbr_borders.proofs.Shifts.{noBorder, border-at, Prices, prices-begin, prices-next, prices-end}
 use Rattle.sbr_borders.proofs.cost_of.Statement.{statement}
 use Rattle.sbr_borders.proofs.cost_of.Tie as tie
 

@@ -5,7 +5,7 @@ use borrow.Author.Needs.{needs}
 use Rattle.sbr_grid.specs.Grid.{first}
 use Rattle.sbr_borders.specs.Borders.{fit}
 use Rattle.sbr_borders.specs.Wanted.{fitOf}
-use Rattle.sbr_borders.proofs.BorderFits.{fit-next, fit-stop, fit-end}
+use Rattle.sbr_borders.proofs.FitCounts.{fit-next, fit-stop, fit-end}
 use Rattle.sbr_borders.proofs.fitting.Statement.{statement}
 use Rattle.sbr_borders.proofs.fitting.Tie as tie
 

@@ -1,5 +1,5 @@
 use borrow.Author.Needs.{needs}
-use Rattle.sbr_borders.proofs.BorderWalks.{last-first}
+use Rattle.sbr_borders.proofs.Walks.{last-first}
 use Rattle.sbr_borders.proofs.last_border.Statement.{statement}
 use Rattle.sbr_borders.proofs.last_border.Tie as tie
 

@@ -1,12 +1,11 @@
 use mathlib.Core.Path.{_≡_, refl, ap, _∙_}
-use Prim.Native.Nat.{ℕ, _-_, _≤_, _<_}
+use Prim.Native.Nat.{ℕ, _+_, _-_, _≤_, _<_}
 use native.Mathlib.Omega.{arith}
 use borrow.Author.Needs.{needs}
 use lib.ListN.{length, getD, length-set}
-use Rattle.sbr_time_grid.proofs.Borders.{zeros-at}
 use Rattle.sbr_borders.specs.Borders.{shiftCount, onsetAt}
-use Rattle.sbr_borders.specs.Wanted.{ShiftsFit}
-use Rattle.sbr_borders.proofs.BorderShifts.{noBorder, border-at, put-below, shifts-few, Turns, turns-begin, turns-next, turns-stop, turns-end}
+use Rattle.sbr_borders.specs.Wanted.{ShiftsFit, nextOf}
+use Rattle.sbr_borders.proofs.Shifts.{noBorder, border-at, shifts-few, fit-zero, fit-put, next-made, Turns, turns-begin, turns-next, turns-stop, turns-end}
 use Rattle.sbr_borders.proofs.next_shifts.Statement.{statement}
 use Rattle.sbr_borders.proofs.next_shifts.Tie as tie
 
@@ -33,7 +32,7 @@ array-read-up : tie.Need-array-read-up Inv-loop μ-loop
 array-read-up c = omega arith
 
 add-up : tie.Need-add-up Inv-loop μ-loop
-add-up c = omega (arith, c .before .before .loop .inv .2 (c .before .before .loop .i) (omega arith))
+add-up c = omega (arith, c .before .before .loop .inv .2 .small (c .before .before .loop .i) (omega arith))
 
 -- the border at an index, as the definitions read it
 border : (c : tie.Start Inv-loop μ-loop) (i : ℕ) → i < 4 → getD (c .args .t1 .border) i noBorder ≡ getD (c .args .t1 .border) i (onsetAt 0)
@@ -53,10 +52,9 @@ returns c =
     let s = c .before .before .before .before in
     let i = s .loop .i in
     let e = c .before .shift-count .ensures ∙ ap shiftCount (border (s .before) i (omega arith)) in
-    let f = shifts-few (getD (s .before .args .t1 .border) i (onsetAt 0) .onset) in (
-      turns-stop (s .loop .inv .3) (omega arith) (omega arith) _ refl (rw e at (c .if1 .taken)),
-      put-below 2 _ (s .loop .next) i _ (omega arith) (omega (arith, e, f)) (λ j l n. s .loop .inv .2 j l),
-    )
+    let few = shifts-few (getD (s .before .args .t1 .border) i (onsetAt 0) .onset) in
+    let fit = fit-put i (getD (s .loop .next) i 0 + 1) (s .loop .inv .2) (s .loop .inv .1) (omega arith) (omega arith) (omega (arith, e, few)) in
+    (next-made _ _ _ fit (turns-stop (s .loop .inv .3) (omega arith) (omega arith) _ refl (rw e at (c .if1 .taken))), fit)
 
 mul-next-2 : tie.Need-mul-next-2 Inv-loop μ-loop
 mul-next-2 c = omega arith
@@ -77,12 +75,12 @@ loop-again c =
     let e = c .before .shift-count .ensures ∙ ap shiftCount (border (s .before) i (omega arith)) in (
       omega arith,
       simp length-set (s .loop .inv .1),
-      put-below 2 _ (s .loop .next) i _ (omega arith) (omega arith) (λ j l n. s .loop .inv .2 j l),
+      fit-put i _ (s .loop .inv .2) (s .loop .inv .1) (omega arith) (omega arith) (omega arith),
       turns-next (s .loop .inv .3) (omega arith) (omega arith) (rw e at (c .if1 .left)),
     )
 
 returns-2 : tie.Need-returns-2 Inv-loop μ-loop
-returns-2 c = (turns-end (c .before .loop .inv .3) (omega arith), λ j h. omega (arith, zeros-at 4 j))
+returns-2 c = (ap nextOf (turns-end (c .before .loop .inv .3) (omega arith)), fit-zero _)
 
 pub next-shifts-spec : {M : Type 1} → statement M
 next-shifts-spec =

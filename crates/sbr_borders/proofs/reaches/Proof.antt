@@ -4,9 +4,9 @@ use native.Mathlib.Omega.{arith}
 use borrow.Author.Tests.{le-leb, lt-leb, not-true, not-false}
 use borrow.Author.Needs.{needs}
 use Rattle.sbr_grid.specs.Grid.{first}
-use Rattle.sbr_grid.proofs.Laws.{length-first}
+use Rattle.sbr_grid.proofs.First.{first-length}
 use Rattle.sbr_borders.specs.Borders.{leadingSteps, allEven, reaches}
-use Rattle.sbr_borders.proofs.BorderWalks.{leading-walk}
+use Rattle.sbr_borders.proofs.Walks.{leading-walk}
 use Rattle.sbr_borders.proofs.reaches.Statement.{statement}
 use Rattle.sbr_borders.proofs.reaches.Tie as tie
 
@@ -16,7 +16,7 @@ returns c = rw (lt-leb _ 3 (c .if1 .taken))
 
 returns-2 : tie.Need-returns-2
 unfolding reaches
-returns-2 c = rw (le-leb _ 3 (c .before .if1 .left), length-first, lt-leb _ _ (c .if2 .taken))
+returns-2 c = rw (le-leb _ 3 (c .before .if1 .left), first-length, lt-leb _ _ (c .if2 .taken))
 
 returns-3 : tie.Need-returns-3
 unfolding reaches
@@ -24,7 +24,7 @@ returns-3 c =
     let a = c .before .before .before .args in
     rw (
       le-leb (a .k) 3 (omega arith),
-      length-first 0 (a .count) (a .borders),
+      first-length 0 (a .count) (a .borders),
       le-leb (a .k) (a .count) (omega arith),
       lt-leb (a .count - a .k) 3 (c .if3 .taken),
     )
@@ -48,7 +48,7 @@ returns-4 c =
     let e = sym (led (c .before)) ∙ not-true _ (c .if4 .taken) in
     rw (
       le-leb (a .k) 3 (omega arith),
-      length-first 0 (a .count) (a .borders),
+      first-length 0 (a .count) (a .borders),
       le-leb (a .k) (a .count) (omega arith),
       le-leb (a .count - a .k) 3 (omega arith),
       e,
@@ -64,7 +64,7 @@ returns-5 c =
     let e = sym (led (c .before .before)) ∙ not-false _ (c .before .if4 .left) in
     rw (
       le-leb (a .k) 3 (omega arith),
-      length-first 0 (a .count) (a .borders),
+      first-length 0 (a .count) (a .borders),
       le-leb (a .k) (a .count) (omega arith),
       le-leb (a .count - a .k) 3 (omega arith),
       e,

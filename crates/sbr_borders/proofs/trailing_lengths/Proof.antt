@@ -1,16 +1,17 @@
-use mathlib.Core.Path.{_≡_, sym, _∙_}
+use mathlib.Core.Path.{sym}
 use Prim.Native.Nat.{_-_, _≤_}
 use native.Mathlib.Omega.{arith}
 use borrow.Author.Needs.{needs}
-use Rattle.sbr_build.specs.Build.{lengthList}
-use Rattle.sbr_borders.proofs.BorderLists.{lastFirst, length-last, getD-last}
-use Rattle.sbr_borders.proofs.BorderWalks.{down, Steps, steps-begin, steps-next, steps-end, trailing-steps}
+use Rattle.sbr_grid.specs.Grid.{first}
+use Rattle.sbr_borders.specs.Borders.{trailingSteps}
+use Rattle.sbr_borders.proofs.Lists.{lastFirst, length-last, getD-last}
+use Rattle.sbr_borders.proofs.Walks.{down, Steps, steps-begin, steps-next, steps-end, trailing-steps}
 use Rattle.sbr_borders.proofs.trailing_lengths.Statement.{statement}
 use Rattle.sbr_borders.proofs.trailing_lengths.Tie as tie
 
 abbrev Inv-loop : tie.InvT-loop
 Inv-loop t k count borders out₀ last₀ i₀ i-end out last i =
-    (i ≤ count - k) × (out .count ≡ i) × (last ≤ 33) × Steps down t (lastFirst k count borders) i last (lengthList out)
+    (i ≤ count - k) × (last ≤ 33) × Steps down (lastFirst k count borders) (count - k) (trailingSteps t k (first 0 count borders)) i last out
 
 abbrev μ-loop : tie.MeasureT-loop
 μ-loop t k count borders out₀ last₀ i₀ i-end out last i = count - k - i
@@ -22,7 +23,10 @@ sub-i-end : tie.Need-sub-i-end Inv-loop μ-loop
 sub-i-end c = omega arith
 
 loop-holds : tie.Need-loop-holds Inv-loop μ-loop
-loop-holds c = (omega arith, c .none .ensures .1, omega arith, steps-begin _ _ _ _ (c .none .ensures .0))
+loop-holds c =
+    let a = c .before .args in
+    let e = c .none .ensures in
+    (omega arith, omega arith, steps-begin (length-last (a .k) (a .count) (a .t2)) (omega arith) (e .0) (e .1) (sym (trailing-steps (a .t) (a .k) (a .count) (a .t2))))
 
 sub-b : tie.Need-sub-b Inv-loop μ-loop
 sub-b c = omega arith
@@ -53,18 +57,13 @@ loop-again c =
     let s = c .before .before .before in
     let a = s .before .before .args in (
       omega arith,
-      omega arith,
       s .before .before .pre .3 (a .count - 1 - s .loop .i) (omega arith),
-      steps-next (s .loop .inv .3) _ _ _ (omega (arith, length-last (a .k) (a .count) (a .t2))) (getD-last (a .k) (a .count) (a .t2) (s .loop .i) (omega arith))
-          (c .before .less .ensures .0) (c .push .ensures .0),
+      steps-next (s .loop .inv .2) _ _ _ (omega arith) (getD-last (a .k) (a .count) (a .t2) (s .loop .i) (omega arith)) (c .before .less .ensures .0)
+          (c .push .ensures .0) (c .push .ensures .1),
     )
 
 returns : tie.Need-returns Inv-loop μ-loop
-returns c =
-    let s = c .before in
-    let a = s .before .before .args in
-    let e = trailing-steps (a .t) (a .k) (a .count) (a .t2) in
-    (steps-end (s .loop .inv .3) (omega (arith, length-last (a .k) (a .count) (a .t2))) ∙ sym e, omega arith)
+returns c = (steps-end (c .before .loop .inv .2) (omega arith), omega arith)
 
 pub trailing-lengths-spec : {M : Type 1} → statement M
 trailing-lengths-spec =

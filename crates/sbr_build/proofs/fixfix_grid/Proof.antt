@@ -1,6 +1,7 @@
--- `sbr_build::fixfix_grid` meets its contract.
+use native.Mathlib.Omega.{arith}
 use borrow.Author.Needs.{needs}
 use Rattle.sbr_build.specs.Build.{fixfixGrid}
+use Rattle.sbr_build.proofs.LengthsOf.{lengths-list}
 use Rattle.sbr_build.proofs.fixfix_grid.Statement.{statement}
 use Rattle.sbr_build.proofs.fixfix_grid.Tie as tie
 
@@ -15,7 +16,9 @@ grid-of-requires c κs = search needs
 
 returns : tie.Need-returns
 unfolding fixfixGrid
-returns c = rw (c .before .before .none .ensures .0, c .before .none2 .ensures .0) at (c .grid-of .ensures)
+returns c =
+    let b = c .before in
+    rw (lengths-list (b .before .none .ensures .0) (omega arith), lengths-list (b .none2 .ensures .0) (omega arith)) at (c .grid-of .ensures)
 
 pub fixfix-grid-spec : {M : Type 1} → statement M
 fixfix-grid-spec = tie.close (tie.spec none-requires none-requires-2 grid-of-requires returns)

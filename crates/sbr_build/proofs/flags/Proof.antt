@@ -1,11 +1,10 @@
--- `sbr_build::flags` meets its contract.
 use mathlib.Core.Path.{_≡_, refl}
 use mathlib.Core.Bool.{false}
 use Prim.Native.Nat.{_≤_, _-_}
 use native.Mathlib.Omega.{arith}
 use lib.ListN.{length, length-set, replicate}
 use Rattle.sbr_grid.specs.Grid.{first}
-use Rattle.sbr_build.proofs.BuildLaws.{flags-next}
+use Rattle.sbr_build.proofs.GridOf.{flags-next}
 use Rattle.sbr_build.proofs.flags.Statement.{statement}
 use Rattle.sbr_build.proofs.flags.Tie as tie
 

@@ -1,4 +1,3 @@
--- `sbr_build::grid_of` meets its contract.
 use mathlib.Core.Path.{_≡_}
 use mathlib.Core.Bool.{cond}
 use mathlib.Core.Logic.{⊎-elim}
@@ -6,8 +5,8 @@ use borrow.Author.Tests.{lt-ltb, le-ltb}
 use borrow.Author.Needs.{needs}
 use lib.Dec.{ltb}
 use lib.ListN.{length-replicate, length-map}
-use Rattle.sbr_grid.proofs.Laws.{length-first}
 use Rattle.sbr_build.specs.Build.{lengthList, raw}
+use Rattle.sbr_build.proofs.LengthsOf.{lengths-count}
 use Rattle.sbr_build.proofs.grid_of.Statement.{statement}
 use Rattle.sbr_build.proofs.grid_of.Tie as tie
 
@@ -51,8 +50,8 @@ returns c =
       length-replicate (a .num-env) (a .high),
       length-map (lengthList (a .rel-0)) raw,
       length-map (lengthList (a .rel-1)) raw,
-      length-first 0 (a .rel-0 .count) (a .rel-0 .slots),
-      length-first 0 (a .rel-1 .count) (a .rel-1 .slots),
+      lengths-count (a .rel-0),
+      lengths-count (a .rel-1),
     )
 
 pub grid-of-spec : {M : Type 1} → statement M

@@ -1,4 +1,3 @@
--- `sbr_build::raw_rel` meets its contract.
 use mathlib.Core.Path.{_≡_, refl}
 use mathlib.Core.List.{map}
 use Prim.Native.Nat.{_≤_, _-_}
@@ -7,7 +6,7 @@ use borrow.Author.Needs.{needs}
 use lib.ListN.{length, length-set}
 use Rattle.sbr_grid.specs.Grid.{first}
 use Rattle.sbr_build.specs.Build.{raw}
-use Rattle.sbr_build.proofs.BuildLaws.{raws-next}
+use Rattle.sbr_build.proofs.GridOf.{raws-next}
 use Rattle.sbr_build.proofs.raw_rel.Statement.{statement}
 use Rattle.sbr_build.proofs.raw_rel.Tie as tie
 

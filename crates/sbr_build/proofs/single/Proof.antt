@@ -1,4 +1,3 @@
--- `sbr_build::single` meets its contract.
 use mathlib.Core.Logic.{⊎-elim}
 use borrow.Author.Needs.{needs}
 use Rattle.sbr_time_grid.proofs.Laws.{class-of-tag}

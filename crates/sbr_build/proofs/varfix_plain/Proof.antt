@@ -1,10 +1,9 @@
--- `sbr_build::varfix_plain` meets its contract.
 use Prim.Native.Nat.{_+_}
 use native.Mathlib.Omega.{arith}
 use borrow.Author.Needs.{needs}
-use Rattle.sbr_grid.proofs.Laws.{length-first}
 use Rattle.sbr_build.specs.Build.{lengthList}
-use Rattle.sbr_build.proofs.BuildLists.{plain-from}
+use Rattle.sbr_build.proofs.LengthsOf.{lengths-count, lengths-list}
+use Rattle.sbr_build.proofs.Shares.{plain-from}
 use Rattle.sbr_build.proofs.varfix_plain.Statement.{statement}
 use Rattle.sbr_build.proofs.varfix_plain.Tie as tie
 
@@ -28,8 +27,8 @@ returns c =
     let p = c .before .before .before in
     let a = p .before .args in
     let r = p .shared .result in
-    rw (plain-from (a .lead) (a .num-env) (a .nts) (lengthList r) (r .count + 1) (p .shared .ensures .0) (omega (arith, length-first 0 (r .count) (r .slots))))
-    (rw (c .before .none .ensures .0) at (c .grid-of .ensures))
+    rw (plain-from (a .lead) (a .num-env) (a .nts) (lengthList r) (r .count + 1) (lengths-list (p .shared .ensures .0) (omega arith)) (omega (arith, lengths-count r)))
+    (rw (lengths-list (c .before .none .ensures .0) (omega arith)) at (c .grid-of .ensures))
 
 pub varfix-plain-spec : {M : Type 1} → statement M
 varfix-plain-spec =

@@ -1,7 +1,6 @@
--- `sbr_build::varvar_grid` meets its contract.
 use borrow.Author.Needs.{needs}
-use Rattle.sbr_grid.proofs.Laws.{length-first}
 use Rattle.sbr_build.specs.Build.{varvarGrid}
+use Rattle.sbr_build.proofs.LengthsOf.{lengths-count}
 use Rattle.sbr_build.proofs.varvar_grid.Statement.{statement}
 use Rattle.sbr_build.proofs.varvar_grid.Tie as tie
 
@@ -24,7 +23,7 @@ returns : tie.Need-returns
 unfolding varvarGrid
 returns c =
     let a = c .before .before .before .args in
-    rw (length-first 0 (a .rel-0 .count) (a .rel-0 .slots), length-first 0 (a .rel-1 .count) (a .rel-1 .slots)) (c .grid-of .ensures)
+    rw (lengths-count (a .rel-0), lengths-count (a .rel-1)) (c .grid-of .ensures)
 
 pub varvar-grid-spec : {M : Type 1} → statement M
 varvar-grid-spec =

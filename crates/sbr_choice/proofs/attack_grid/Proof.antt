@@ -1,4 +1,3 @@
--- `sbr_choice::attack_grid` meets its contract.
 use mathlib.Core.Path.{_≡_, _∙_}
 use mathlib.Core.Logic.{⊎-elim}
 use mathlib.Core.Option.{none}
@@ -10,7 +9,7 @@ use Rattle.sbr_attack.specs.Attack.{lateAttackVarvar, doubleAttackGrid}
 use Rattle.sbr_search.specs.Search.{multiOnsetGrid}
 use Rattle.sbr_build.specs.Cases.{onsetList}
 use Rattle.sbr_choice.specs.Choice.{solver, doubleFirst, attackGrid}
-use Rattle.sbr_search.proofs.SearchFrames.{Bounds, bounds, first-onset, second-onset}
+use Rattle.sbr_search.proofs.Bounds.{Bounds, bounds, first-onset, second-onset}
 use Rattle.sbr_choice.proofs.ChoiceCases.{solver-many, solver-few, solver-again, double-many, double-few, late, double, multi, found, passed}
 use Rattle.sbr_choice.proofs.attack_grid.Statement.{statement}
 use Rattle.sbr_choice.proofs.attack_grid.Tie as tie

@@ -1,11 +1,10 @@
--- `sbr_choice::choose_grid` meets its contract.
 use mathlib.Core.Path.{_≡_}
 use mathlib.Core.Bool.{cond}
 use mathlib.Core.Logic.{⊎-elim}
 use Prim.Native.Nat.{_≤_}
 use native.Mathlib.Omega.{arith}
 use borrow.Author.Needs.{needs}
-use Rattle.sbr_search.proofs.SearchFrames.{Bounds, bounds}
+use Rattle.sbr_search.proofs.Bounds.{Bounds, bounds}
 use Rattle.sbr_choice.proofs.ChoiceCases.{chosen-none, chosen-some}
 use Rattle.sbr_choice.proofs.choose_grid.Statement.{statement}
 use Rattle.sbr_choice.proofs.choose_grid.Tie as tie

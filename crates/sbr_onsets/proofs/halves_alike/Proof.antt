@@ -3,8 +3,8 @@ use mathlib.Core.Bool.{_&&_}
 use borrow.Author.Needs.{needs}
 use lib.Ieee as Ieee
 use lib.Ieee.{binary64}
-use Rattle.sbr_onsets.specs.Onsets.{one64, half, two64, halvesAlike}
-use Rattle.sbr_onsets.proofs.OnsetLaws.{energyAt, halves-is}
+use Rattle.sbr_onsets.specs.Onsets.{energyAt, one64, half, two64, halvesAlike}
+use Rattle.sbr_onsets.proofs.Onsets.{halves-is}
 use Rattle.sbr_onsets.proofs.halves_alike.Statement.{statement}
 use Rattle.sbr_onsets.proofs.halves_alike.Tie as tie
 

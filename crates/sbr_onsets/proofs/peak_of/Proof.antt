@@ -2,15 +2,14 @@ use mathlib.Core.Path.{_≡_, refl}
 use mathlib.Core.Bool.{false}
 use Prim.Native.Nat.{_≤_, _-_}
 use native.Mathlib.Omega.{arith}
-use lib.ListN.{getD}
-use lib.Ieee.{nan, isNan, ofBits}
-use Rattle.sbr_onsets.specs.Onsets.{peakOf}
-use Rattle.sbr_onsets.proofs.OnsetLaws.{peak-more}
+use lib.Ieee.{isNan, ofBits}
+use Rattle.sbr_onsets.specs.Onsets.{energyAt, peakOf}
+use Rattle.sbr_onsets.proofs.Onsets.{peak-more}
 use Rattle.sbr_onsets.proofs.peak_of.Statement.{statement}
 use Rattle.sbr_onsets.proofs.peak_of.Tie as tie
 
 abbrev Inv-loop : tie.InvT-loop
-Inv-loop e n peak₀ i₀ peak i = (i ≤ n) × (peak ≡ peakOf (λ j. getD e j nan) i) × (isNan peak ≡ false)
+Inv-loop e n peak₀ i₀ peak i = (i ≤ n) × (peak ≡ peakOf (energyAt e) i) × (isNan peak ≡ false)
 
 abbrev μ-loop : tie.MeasureT-loop
 μ-loop e n peak₀ i₀ peak i = n - i

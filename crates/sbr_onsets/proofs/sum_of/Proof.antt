@@ -1,15 +1,14 @@
 use mathlib.Core.Path.{_≡_, refl}
 use Prim.Native.Nat.{_+_, _≤_, _-_}
 use native.Mathlib.Omega.{arith}
-use lib.ListN.{getD}
-use lib.Ieee.{nan}
 use Rattle.sbr_floats.specs.Floats.{total}
 use Rattle.sbr_energy.proofs.Laws.{total-none, total-more}
+use Rattle.sbr_onsets.specs.Onsets.{energyAt}
 use Rattle.sbr_onsets.proofs.sum_of.Statement.{statement}
 use Rattle.sbr_onsets.proofs.sum_of.Tie as tie
 
 abbrev Inv-loop : tie.InvT-loop
-Inv-loop e s n sum₀ i₀ sum i = (i ≤ n) × (sum ≡ total (λ j. getD e (s + j) nan) i)
+Inv-loop e s n sum₀ i₀ sum i = (i ≤ n) × (sum ≡ total (λ j. energyAt e (s + j)) i)
 
 abbrev μ-loop : tie.MeasureT-loop
 μ-loop e s n sum₀ i₀ sum i = n - i

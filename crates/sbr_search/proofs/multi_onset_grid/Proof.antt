@@ -8,9 +8,9 @@ use Rattle.sbr_search.specs.Search as of
 use Rattle.sbr_search.specs.Cheapest.{multiOf, planOf, bestOf}
 use Rattle.sbr_build.specs.Cases.{onsetList}
 use Rattle.sbr_borders.specs.Wanted.{wantedList, InFrame}
-use Rattle.sbr_search.proofs.SearchEnds.{beats-any}
-use Rattle.sbr_search.proofs.SearchFrames.{bounds, first-onset}
-use Rattle.sbr_search.proofs.SearchCases.{bare-framed, isolated-framed, wins-any, plain-loses, multi-by}
+use Rattle.sbr_search.proofs.TryEnds.{beats-any}
+use Rattle.sbr_search.proofs.Bounds.{bounds, first-onset}
+use Rattle.sbr_search.proofs.Bare.{bare-framed, isolated-framed, wins-any, plain-loses, multi-by}
 use Rattle.sbr_search.proofs.multi_onset_grid.Statement.{statement}
 use Rattle.sbr_search.proofs.multi_onset_grid.Tie as tie
 
@@ -28,7 +28,7 @@ with-isolating c =
 varvar-from-borders-requires : tie.Need-varvar-from-borders-requires
 varvar-from-borders-requires c κs =
     let f = bounds _ _ (c .before .args .onsets) (c .before .pre .0) in
-    (with-isolating c, omega (arith, c .isolated-borders .ensures .1), f .most)
+    (with-isolating c, omega (arith, c .isolated-borders .ensures .1), f .frame .most)
 
 is-cheaper-requires : tie.Need-is-cheaper-requires
 is-cheaper-requires c κs = search needs
@@ -38,7 +38,7 @@ planned-grid-requires c κs =
     let v = c .before .before in
     let i = v .before in
     let f = bounds _ _ (i .before .args .onsets) (i .before .pre .0) in
-    (with-isolating i, omega (arith, i .isolated-borders .ensures .1), f .held, f .most, v .varvar-from-borders .ensures .1)
+    (with-isolating i, omega (arith, i .isolated-borders .ensures .1), f .frame .held, f .frame .most, v .varvar-from-borders .ensures .1)
 
 -- the isolating plan wins whatever the plain one costs
 alone : (c : tie.Then1) →
@@ -76,7 +76,7 @@ varvar-from-borders-requires-2 : tie.Need-varvar-from-borders-requires-2
 varvar-from-borders-requires-2 c κs =
     let p = c .before .before .before .before .before in
     let f = bounds _ _ (p .args .onsets) (p .pre .0) in
-    (without c, omega (arith, c .bare-borders .ensures .1), f .most)
+    (without c, omega (arith, c .bare-borders .ensures .1), f .frame .most)
 
 plain-wins-requires : tie.Need-plain-wins-requires
 plain-wins-requires c κs = search needs
@@ -108,7 +108,7 @@ planned-grid-requires-2 c κs =
     let b = v .before in
     let p = b .before .before .before .before .before in
     let f = bounds _ _ (p .args .onsets) (p .pre .0) in
-    (without b, omega (arith, b .bare-borders .ensures .1), f .held, f .most, v .varvar-from-borders2 .ensures .1)
+    (without b, omega (arith, b .bare-borders .ensures .1), f .frame .held, f .frame .most, v .varvar-from-borders2 .ensures .1)
 
 returns-2 : tie.Need-returns-2
 returns-2 c = c .planned-grid2 .ensures ∙ ap multiOf (chosen (c .before .before) true (c .before .if2 .taken))
@@ -118,7 +118,7 @@ planned-grid-requires-3 c κs =
     let v = c .before .before .before .before .before .before in
     let i = v .before in
     let f = bounds _ _ (i .before .args .onsets) (i .before .pre .0) in
-    (with-isolating i, omega (arith, i .isolated-borders .ensures .1), f .held, f .most, v .varvar-from-borders .ensures .1)
+    (with-isolating i, omega (arith, i .isolated-borders .ensures .1), f .frame .held, f .frame .most, v .varvar-from-borders .ensures .1)
 
 returns-3 : tie.Need-returns-3
 returns-3 c = c .planned-grid3 .ensures ∙ ap multiOf (chosen (c .before .before) false (c .before .if2 .left))

@@ -1,7 +1,7 @@
 use Prim.Native.Nat.{_+_, _-_}
 use native.Mathlib.Omega.{arith}
 use borrow.Author.Needs.{needs}
-use Rattle.sbr_search.proofs.SearchEnds.{ltb-same}
+use Rattle.sbr_search.proofs.TryEnds.{ltb-same}
 use Rattle.sbr_search.proofs.plain_wins.Statement.{statement}
 use Rattle.sbr_search.proofs.plain_wins.Tie as tie
 

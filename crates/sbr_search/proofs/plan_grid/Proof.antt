@@ -1,5 +1,7 @@
 use native.Mathlib.Omega.{arith}
 use borrow.Author.Needs.{needs}
+use Rattle.sbr_build.proofs.LengthsOf.{lengths-list}
+use Rattle.sbr_borders.proofs.Shifts.{places-back}
 use Rattle.sbr_search.proofs.plan_grid.Statement.{statement}
 use Rattle.sbr_search.proofs.plan_grid.Tie as tie
 
@@ -28,8 +30,16 @@ varvar-grid-requires c κs =
 
 returns : tie.Need-returns
 returns c =
-    rw (← c .before .before .before .before .borders-of .ensures .0, ← c .before .before .before .leading-lengths .ensures .0, ← c .before .trailing-lengths .ensures .0)
-    (c .varvar-grid .ensures)
+    let l = c .before .before .before in
+    let b = l .before in
+    let s = b .before .before in
+    let w = s .args .w in
+    let e = places-back (w .count) (w .border) (s .args .plan .shifts) _ (s .pre .0 .few) (b .borders-of .ensures .0) in
+    rw (
+      ← e,
+      ← lengths-list (l .leading-lengths .ensures .0) (omega (arith, l .leading-lengths .ensures .1, s .pre)),
+      ← lengths-list (c .before .trailing-lengths .ensures .0) (omega (arith, c .before .trailing-lengths .ensures .1, s .pre)),
+    ) (c .varvar-grid .ensures)
 
 pub plan-grid-spec : {M : Type 1} → statement M
 plan-grid-spec =

@@ -4,12 +4,12 @@ use native.Mathlib.Omega.{arith}
 use borrow.Author.Tests.{not-true, not-false}
 use borrow.Author.Needs.{needs}
 use Rattle.sbr_grid.specs.Grid.{first}
-use Rattle.sbr_grid.proofs.Laws.{length-first}
+use Rattle.sbr_grid.proofs.First.{first-length}
 use Rattle.sbr_search.specs.Search.{beats}
 use Rattle.sbr_borders.specs.Borders.{lastOr}
 use Rattle.sbr_search.specs.Cheapest.{bestOf}
-use Rattle.sbr_search.proofs.SearchEnds.{beats-any, end-early, end-dear, end-unfit, end-fit}
-use Rattle.sbr_borders.proofs.BorderFits.{fit-leading, fit-nothing, fit-within}
+use Rattle.sbr_search.proofs.TryEnds.{beats-any, end-early, end-dear, end-unfit, end-fit}
+use Rattle.sbr_borders.proofs.FitCounts.{fit-leading, fit-nothing, fit-within}
 use Rattle.sbr_search.proofs.try_end.Statement.{statement}
 use Rattle.sbr_search.proofs.try_end.Tie as tie
 
@@ -63,7 +63,7 @@ returns-3 c =
     let a = e .before .before .before .before .args in
     let f = fit-leading _ _ (sym (c .before .before .before .fitting .ensures) ∙ c .before .fit .given .1) in (
       end-fit _ _ (a .lead) _ _ _ _ (past (e .before .before)) (sym (beat (e .before)) ∙ not-false _ (e .if2 .left)) _ f,
-      record { near = omega arith; sides = omega (arith, fit-within _ _ _ _ _ _ f, length-first 0 (a .count) (a .borders)) },
+      record { near = omega arith; sides = omega (arith, fit-within _ _ _ _ _ _ f, first-length 0 (a .count) (a .borders)) },
     )
 
 returns-4 : tie.Need-returns-4

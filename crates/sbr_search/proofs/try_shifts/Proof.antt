@@ -4,9 +4,12 @@ use native.Mathlib.Omega.{arith}
 use borrow.Author.Tests.{not-true, not-false}
 use borrow.Author.Needs.{needs}
 use Rattle.sbr_grid.specs.Grid.{first}
+use Rattle.sbr_borders.specs.Borders.{places}
+use Rattle.sbr_borders.specs.Wanted.{wantedList}
+use Rattle.sbr_borders.proofs.Shifts.{places-back}
 use Rattle.sbr_search.specs.Search.{tryEnds}
 use Rattle.sbr_search.specs.Cheapest.{bestOf, Within}
-use Rattle.sbr_search.proofs.SearchEnds.{beats-any, ends-next, ends-end, shifts-dear, shifts-fall, shifts-rise}
+use Rattle.sbr_search.proofs.TryEnds.{beats-any, ends-next, ends-end, shifts-dear, shifts-fall, shifts-rise}
 use Rattle.sbr_search.proofs.try_shifts.Statement.{statement}
 use Rattle.sbr_search.proofs.try_shifts.Tie as tie
 
@@ -37,13 +40,20 @@ returns c =
 borders-of-requires : tie.Need-borders-of-requires Inv-loop μ-loop
 borders-of-requires c κs = search needs
 
+-- the borders of the shifts, as a list
+borders : (c : tie.After-borders-of Inv-loop μ-loop) → let a = c .before .before .before .before .args in
+    first 0 (a .w .count) (c .borders-of .result) ≡ places (wantedList (a .w)) (first 0 (a .w .count) (a .shifts))
+borders c =
+    let s = c .before .before .before .before in
+    places-back (s .args .w .count) (s .args .w .border) (s .args .shifts) _ (s .pre .0 .few) (c .borders-of .ensures .0)
+
 rises-from-requires : tie.Need-rises-from-requires Inv-loop μ-loop
 rises-from-requires c κs = search needs
 
 returns-2 : tie.Need-returns-2 Inv-loop μ-loop
 returns-2 c =
     let p = c .before .before .before .before .before .before in
-    (shifts-fall _ _ _ _ _ _ (c .before .before .borders-of .ensures .0) (sym (c .before .rises-from .ensures) ∙ not-true _ (c .if2 .taken)), p .pre .3)
+    (shifts-fall _ _ _ _ _ _ (borders (c .before .before)) (sym (c .before .rises-from .ensures) ∙ not-true _ (c .if2 .taken)), p .pre .3)
 
 loop-holds : tie.Need-loop-holds Inv-loop μ-loop
 loop-holds c = (omega arith, c .before .before .before .before .before .before .pre .3, refl)
@@ -71,7 +81,7 @@ returns-3 c =
     let s = c .before in
     let e = s .before in
     let k = e .before .before .before .before .before in (
-      shifts-rise _ _ _ _ _ _ (e .before .before .borders-of .ensures .0) _ _ (sym (e .before .rises-from .ensures) ∙ not-false _ (e .if2 .left))
+      shifts-rise _ _ _ _ _ _ (borders (e .before .before)) _ _ (sym (e .before .rises-from .ensures) ∙ not-false _ (e .if2 .left))
           (k .cost-of .ensures .0) (ends-end 4 _ _ _ _ _ _ _ _ (omega arith) (s .loop .inv .2)),
       s .loop .inv .1,
     )

@@ -4,11 +4,11 @@ use Prim.Native.Nat.{_-_, _≤_}
 use native.Mathlib.Omega.{arith}
 use borrow.Author.Needs.{needs}
 use Rattle.sbr_grid.specs.Grid.{first}
-use Rattle.sbr_time_grid.proofs.Borders.{zeros-at}
 use Rattle.sbr_search.specs.Search.{tryFrom}
 use Rattle.sbr_search.specs.Cheapest.{bestOf, Within}
 use Rattle.sbr_borders.specs.Wanted.{wantedList, ShiftsFit}
-use Rattle.sbr_search.proofs.SearchEnds.{search-begin, search-next, search-last, search-end, shifts-next, shifts-last}
+use Rattle.sbr_borders.proofs.Shifts.{fit-zero, next-is, next-last}
+use Rattle.sbr_search.proofs.TryEnds.{search-begin, search-next, search-last, search-end}
 use Rattle.sbr_search.proofs.varvar_from_borders.Statement.{statement}
 use Rattle.sbr_search.proofs.varvar_from_borders.Tie as tie
 
@@ -26,7 +26,7 @@ loop-holds c =
     let w = c .args .w in (
       omega arith,
       record { near = omega arith; sides = omega arith },
-      λ j h. omega (arith, zeros-at 4 j),
+      fit-zero _,
       search-begin _ _ (w .count) 4 (w .border),
     )
 
@@ -46,7 +46,7 @@ returns c =
     let n = c .before .before in
     let s = n .before .before .before in (
       search-last 24 _ _ _ _ _ _ _ _ (omega arith) (n .before .try-shifts .ensures .0)
-          (shifts-last (n .next-shifts .result) (s .before .args .w .count) _ (c .enum-told .given .1) (n .next-shifts .ensures .0)) (s .loop .inv .3),
+          (next-last (n .next-shifts .result) _ (c .enum-told .given .1) (n .next-shifts .ensures .0)) (s .loop .inv .3),
       n .before .try-shifts .ensures .1,
     )
 
@@ -67,7 +67,7 @@ loop-again c =
       n .before .try-shifts .ensures .1,
       n .next-shifts .ensures .1,
       search-next 24 _ _ _ _ _ _ _ _ _ (omega arith) (n .before .try-shifts .ensures .0)
-          (shifts-next (n .next-shifts .result) (s .before .args .w .count) _ (c .before .enum-told2 .given .1) (n .next-shifts .ensures .0)) (s .loop .inv .3),
+          (next-is _ (n .next-shifts .result) _ (s .loop .shifts) (s .before .pre .0 .few) (c .before .enum-told2 .given .1) (n .next-shifts .ensures .0)) (s .loop .inv .3),
     )
 
 returns-2 : tie.Need-returns-2 Inv-loop μ-loop

@@ -11,16 +11,13 @@ use borrow.Author.Tests.{lt-ltb, le-ltb, ltb-false}
 use lib.Dec.{ltb}
 use lib.ListN.{replicate}
 use Rattle.sbr_grid.specs.Grid.{first}
-use Rattle.sbr_borders.specs.declared.NextShifts.{NextShifts}
-use Rattle.sbr_borders.specs.declared.Further.the-variants.{Next, Last}
 use Rattle.sbr_borders.specs.declared.WantedBorder.{WantedBorder}
 use Rattle.sbr_search.specs.declared.Cost.{Cost}
 use Rattle.sbr_search.specs.declared.Cost.the-variants.{Total, NoTotal}
 use Rattle.sbr_search.specs.Search.{Plan, Best, beats, tryEnds, tryShifts, tryFrom, search}
 use Rattle.sbr_borders.specs.Borders.{places, prices, risesFrom, lastOr, fit, nextShifts, onsetAt}
 use Rattle.sbr_search.specs.Cheapest.{bestBy}
-use Rattle.sbr_borders.specs.Wanted.{shiftsOf}
-use Rattle.sbr_borders.proofs.BorderFits.{left}
+use Rattle.sbr_borders.proofs.FitCounts.{left}
 
 -- what is not below is at least as large
 le-of-not : (c d : ℕ) → (c < d → ⊥) → Dec (suc c ≤ d) → d ≤ c
@@ -148,11 +145,3 @@ pub search-begin : (n lead k m : ℕ) (bs : List WantedBorder)
     → tryFrom 24 n lead (first (onsetAt 0) k bs) (some (first 0 k (replicate m 0))) none ≡ search n lead (first (onsetAt 0) k bs)
 unfolding search
 search-begin n lead k m bs = rw (zero-shifts k m bs)
-
--- there is a further turn
-pub shifts-next : (t : NextShifts) (k : ℕ) (o : Option (List ℕ)) → t .further ≡ Next → shiftsOf k t ≡ o → some (first 0 k (t .shifts)) ≡ o
-shifts-next t k o e f = rw e at f
-
--- there is none
-pub shifts-last : (t : NextShifts) (k : ℕ) (o : Option (List ℕ)) → t .further ≡ Last → shiftsOf k t ≡ o → none ≡ o
-shifts-last t k o e f = rw e at f

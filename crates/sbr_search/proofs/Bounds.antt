@@ -2,25 +2,17 @@
 use mathlib.Core.List.{List, [], _∷_}
 use Prim.Native.Nat.{ℕ, zero, suc, _+_, _≤_, _<_}
 use native.Mathlib.Omega.{arith}
-use lib.ListN.{length, getD}
+use lib.ListN.{getD}
 use Rattle.sbr_grid.specs.Grid.{first}
-use Rattle.sbr_grid.proofs.Laws.{length-first}
+use Rattle.sbr_grid.proofs.First.{first-length}
 use Rattle.sbr_time_grid.proofs.Laws.{slot-range}
 use Rattle.sbr_build.specs.declared.Onsets.{Onsets}
-use Rattle.sbr_build.specs.Cases.{OnsetsFrom, Case, onsetList}
+use Rattle.sbr_build.proofs.OnsetsRecord.{onsets-few}
+use Rattle.sbr_build.specs.Cases.{FrameBounds, OnsetsFrom, Case, onsetList}
 
--- at most k onsets
-onsets-few : (k lo n : ℕ) (os : List ℕ) → OnsetsFrom k lo n os → length os ≤ k
-onsets-few zero lo n [] h = omega arith
-onsets-few zero lo n (s ∷ os) h = absurd h
-onsets-few (suc k) lo n [] h = omega arith
-onsets-few (suc k) lo n (s ∷ os) h = omega (arith, onsets-few k (s + 4) n os (h .2))
-
--- the bounds of a frame: slot count, lead, count of onsets
+-- the bounds of a frame, and of the count of its onsets
 pub record Bounds (n lead : ℕ) (o : Onsets) : Type 0 where
-  pub least : 15 ≤ n
-  pub most : n ≤ 16
-  pub held : lead ≤ 3
+  pub frame : FrameBounds n lead
   pub few : o .count ≤ 3
 
 -- every case is within them
@@ -28,10 +20,8 @@ pub bounds : (n lead : ℕ) (o : Onsets) → Case n lead (onsetList o) → Bound
 bounds n lead o c =
     let s = slot-range n (c .slots) in
     record {
-      least = s .0;
-      most = s .1;
-      held = c .clamped;
-      few = omega (arith, onsets-few 3 4 n (onsetList o) (c .onsets), length-first 0 (o .count) (o .slot));
+      frame = record { least = s .0; most = s .1; held = c .clamped };
+      few = omega (arith, onsets-few 3 4 n (onsetList o) (c .onsets), first-length 0 (o .count) (o .slot));
     }
 
 -- the first onset is at lo or later, and in the frame

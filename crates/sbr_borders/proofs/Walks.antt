@@ -7,8 +7,12 @@ use native.Mathlib.Omega.{arith}
 use lib.Dec.{ltb}
 use lib.ListN.{length, drop, getD, drop-of-length-le}
 use Rattle.sbr_grid.specs.Grid.{first}
+use Rattle.sbr_grid.proofs.First.{first-taken}
+use Rattle.sbr_build.specs.declared.Lengths.{Lengths}
+use Rattle.sbr_build.specs.Build.{lengthList, lengthsOf, pushed}
+use Rattle.sbr_build.proofs.LengthsOf.{lengths-list, lengths-held, lengths-step}
 use Rattle.sbr_borders.specs.Borders.{risesFrom, lastOr, stepsUp, stepsDown, leadingSteps, trailingSteps, evenOk, allEven}
-use Rattle.sbr_borders.proofs.BorderLists.{drop-next, take-first, lastFirst}
+use Rattle.sbr_borders.proofs.Lists.{drop-next, lastFirst}
 
 -- every element passes the test with the one before it, the first with p
 unfoldable pub walk : (ℕ → ℕ → Bool) → ℕ → List ℕ → Bool
@@ -58,7 +62,7 @@ even-walk f p (b ∷ bs) = ap (λ r. evenOk (f p b) && r) (even-walk f b bs)
 
 -- the leading lengths are the steps up through the first k borders
 pub leading-steps : (lead k n : ℕ) (xs : List ℕ) → k ≤ n → leadingSteps lead k (first 0 n xs) ≡ steps up lead (first 0 k xs)
-leading-steps lead k n xs h = rw (take-first 0 k n xs h) (up-steps lead (first 0 k xs))
+leading-steps lead k n xs h = rw (first-taken 0 k n xs h) (up-steps lead (first 0 k xs))
 
 -- the trailing lengths are the steps down through the others
 pub trailing-steps : (t k n : ℕ) (xs : List ℕ) → trailingSteps t k (first 0 n xs) ≡ steps down t (lastFirst k n xs)
@@ -72,48 +76,63 @@ leading-walk lead k n xs h = ap allEven (leading-steps lead k n xs h) ∙ even-w
 pub trailing-walk : (t k n : ℕ) (xs : List ℕ) → allEven (trailingSteps t k (first 0 n xs)) ≡ walk (evenBy down) t (lastFirst k n xs)
 trailing-walk t k n xs = ap allEven (trailing-steps t k n xs) ∙ even-walk down t (lastFirst k n xs)
 
--- before index i, with p the element before it, all tests passed: the rest decides
-pub record Walk (t : ℕ → ℕ → Bool) (p₀ : ℕ) (l : List ℕ) (i p : ℕ) : Type 0 where
-  pub rest : walk t p (drop i l) ≡ walk t p₀ l
+-- before index i of n, with p the element before it, all tests passed: the rest decides r
+pub record Walk (t : ℕ → ℕ → Bool) (l : List ℕ) (n : ℕ) (r : Bool) (i p : ℕ) : Type 0 where
+  pub size : length l ≡ n
+  pub rest : walk t p (drop i l) ≡ r
 
--- no element is passed
-pub walk-begin : (t : ℕ → ℕ → Bool) (p : ℕ) (l : List ℕ) → Walk t p l 0 p
-walk-begin t p l = record { rest = refl }
-
-module _ {t : ℕ → ℕ → Bool} {p₀ : ℕ} {l : List ℕ} {i p : ℕ} (w : Walk t p₀ l i p) where
+module _ {t : ℕ → ℕ → Bool} {l : List ℕ} {n : ℕ} {r : Bool} {i p : ℕ} (w : Walk t l n r i p) where
   -- one element further
-  pub walk-next : (b : ℕ) → i < length l → getD l i 0 ≡ b → t p b ≡ true → Walk t p₀ l (i + 1) b
+  pub walk-next : (b : ℕ) → i < n → getD l i 0 ≡ b → t p b ≡ true → Walk t l n r (i + 1) b
   unfolding walk
-  walk-next b h e k = record { rest = rw (drop-next 0 l i b h e, k) at (w .rest) }
+  walk-next b h e k = record { size = w .size; rest = rw (drop-next 0 l i b (omega (arith, w .size)) e, k) at (w .rest) }
 
   -- an element fails the test
-  pub walk-stop : (b : ℕ) → i < length l → getD l i 0 ≡ b → t p b ≡ false → false ≡ walk t p₀ l
+  pub walk-stop : (b : ℕ) → i < n → getD l i 0 ≡ b → t p b ≡ false → false ≡ r
   unfolding walk
-  walk-stop b h e k = rw (drop-next 0 l i b h e, k) at (w .rest)
+  walk-stop b h e k = rw (drop-next 0 l i b (omega (arith, w .size)) e, k) at (w .rest)
 
   -- no element is left
-  pub walk-end : length l ≤ i → true ≡ walk t p₀ l
+  pub walk-end : n ≤ i → true ≡ r
   unfolding walk
-  walk-end h = rw (drop-of-length-le l {i = i} h) at (w .rest)
+  walk-end h = rw (drop-of-length-le l {i = i} (omega (arith, w .size))) at (w .rest)
 
--- ds are the steps before index i, with p the element before it
-pub record Steps (f : ℕ → ℕ → ℕ) (p₀ : ℕ) (l : List ℕ) (i p : ℕ) (ds : List ℕ) : Type 0 where
-  pub rest : ds ++ steps f p (drop i l) ≡ steps f p₀ l
+-- out holds the steps before index i of n, at most four, with p the element before it: with the rest they are r
+pub record Steps (f : ℕ → ℕ → ℕ) (l : List ℕ) (n : ℕ) (r : List ℕ) (i p : ℕ) (out : Lengths) : Type 0 where
+  pub size : length l ≡ n
+  pub few : n ≤ 4
+  pub count : out .count ≡ i
+  pub held : out ≡ lengthsOf (lengthList out)
+  pub rest : lengthList out ++ steps f p (drop i l) ≡ r
 
 -- no element is passed
-pub steps-begin : (f : ℕ → ℕ → ℕ) (p : ℕ) (l ds : List ℕ) → ds ≡ [] → Steps f p l 0 p ds
-steps-begin f p l ds e = record { rest = rw e }
+pub steps-begin : {f : ℕ → ℕ → ℕ} {l : List ℕ} {n : ℕ} {r : List ℕ} {p : ℕ} {out : Lengths} → length l ≡ n → n ≤ 4 → out ≡ lengthsOf [] → out .count ≡ 0
+    → steps f p l ≡ r → Steps f l n r 0 p out
+steps-begin s h e k g =
+    record { size = s; few = h; count = k; held = lengths-held [] e (omega arith); rest = rw (lengths-list e (omega arith)) g }
 
-module _ {f : ℕ → ℕ → ℕ} {p₀ : ℕ} {l : List ℕ} {i p : ℕ} {ds : List ℕ} (s : Steps f p₀ l i p ds) where
+module _ {f : ℕ → ℕ → ℕ} {l : List ℕ} {n : ℕ} {r : List ℕ} {i p : ℕ} {out : Lengths} (s : Steps f l n r i p out) where
   -- one step more
-  pub steps-next : (b d : ℕ) (es : List ℕ) → i < length l → getD l i 0 ≡ b → d ≡ f p b → es ≡ ds ++ (d ∷ []) → Steps f p₀ l (i + 1) b es
+  pub steps-next : (b d : ℕ) (more : Lengths) → i < n → getD l i 0 ≡ b → d ≡ f p b → more ≡ pushed out d → more .count ≡ out .count + 1
+      → Steps f l n r (i + 1) b more
   unfolding steps
-  steps-next b d es h e g k = record { rest = rw (k, g, append-assoc ds (f p b ∷ []) (steps f b (drop (i + 1) l))) (rw (drop-next 0 l i b h e) at (s .rest)) }
+  steps-next b d more h e g k c =
+      let q = lengths-step d (s .held) (omega (arith, s .few, s .count)) k in
+      record {
+        size = s .size;
+        few = s .few;
+        count = omega (arith, s .count);
+        held = q .held;
+        rest = rw (q .list, g, append-assoc (lengthList out) (f p b ∷ []) (steps f b (drop (i + 1) l)))
+            (rw (drop-next 0 l i b (omega (arith, s .size)) e) at (s .rest));
+      }
 
   -- no element is left
-  pub steps-end : length l ≤ i → ds ≡ steps f p₀ l
+  pub steps-end : n ≤ i → out ≡ lengthsOf r
   unfolding steps
-  steps-end h = sym (append-nil ds) ∙ rw (drop-of-length-le l {i = i} h) at (s .rest)
+  steps-end h =
+      s .held
+      ∙ ap lengthsOf (sym (append-nil (lengthList out)) ∙ rw (drop-of-length-le l {i = i} (omega (arith, s .size))) at (s .rest))
 
 -- the last of the first n + 1 borders
 last-more : (p n : ℕ) (xs : List ℕ) → getD xs n 0 ≡ lastOr p (first 0 (suc n) xs)

@@ -8,7 +8,7 @@ use native.Mathlib.Omega.{arith}
 use borrow.Author.Tests.{le-ltb, ltb-false}
 use lib.ListN.{length, drop, set, getD, drop-of-length-le, List·getD-map}
 use Rattle.sbr_grid.specs.Grid.{first}
-use Rattle.sbr_grid.proofs.Laws.{length-first, getD-first}
+use Rattle.sbr_grid.proofs.First.{first-length, first-getD, first-push}
 use Rattle.sbr_borders.specs.declared.WantedBorder.{WantedBorder}
 use Rattle.sbr_build.specs.declared.Onsets.{Onsets}
 use Rattle.sbr_search.specs.declared.Cost.{Cost}
@@ -19,8 +19,8 @@ use Rattle.sbr_borders.specs.Borders.{onsetAt}
 use Rattle.sbr_build.specs.Cases.{OnsetsFrom, Case, onsetList}
 use Rattle.sbr_search.specs.Cheapest.{bestBy}
 use Rattle.sbr_borders.specs.Wanted.{wantedList, InFrame}
-use Rattle.sbr_search.proofs.SearchFrames.{bounds}
-use Rattle.sbr_borders.proofs.BorderLists.{drop-next, first-put}
+use Rattle.sbr_search.proofs.Bounds.{bounds}
+use Rattle.sbr_borders.proofs.Lists.{drop-next}
 
 -- the first k borders of the array stand for all but the onsets from i on
 pub record Bared (ws : List WantedBorder) (os : List ℕ) (k i : ℕ) (bs : List WantedBorder) : Type 0 where
@@ -38,7 +38,7 @@ module _ {ws : List WantedBorder} {os : List ℕ} {k i : ℕ} {bs : List WantedB
   pub bare-next : (v : ℕ) → i < length os → k < length bs → getD os i 0 ≡ v → Bared ws os (k + 1) (i + 1) (set bs k (onsetAt v))
   bare-next v h l e =
       record {
-        rest = rw (first-put (onsetAt 0) bs k (onsetAt v) l, append-assoc (first (onsetAt 0) k bs) (onsetAt v ∷ []) (bare (drop (i + 1) os)))
+        rest = rw (first-push (onsetAt 0) k bs (onsetAt v) l, append-assoc (first (onsetAt 0) k bs) (onsetAt v ∷ []) (bare (drop (i + 1) os)))
             (rw (drop-next 0 os i v h e) at (r .rest));
       }
 
@@ -63,7 +63,7 @@ Inside b = (1 ≤ b .slot) × (b .slot ≤ 32)
 in-frame : (w : Wanted) (ws : List WantedBorder) → wantedList w ≡ ws → w .count ≤ 4 → ((i : ℕ) → i < w .count → Inside (getD ws i (onsetAt 0))) → InFrame w
 in-frame w ws e h f =
     let at : (i : ℕ) → i < w .count → Inside (getD (w .border) i (onsetAt 0)) =
-    λ i l. rw (← getD-first (onsetAt 0) (w .count) i (w .border) l, e) (f i l) in
+    λ i l. rw (← first-getD (onsetAt 0) (w .count) i (w .border) l, e) (f i l) in
     record { few = h; from = λ i l. at i l .0; by = λ i l. at i l .1 }
 
 -- the onsets are in such slots
@@ -82,16 +82,16 @@ pub bare-framed : {n lead : ℕ} (o : Onsets) (w : Wanted) → Case n lead (onse
     → wantedList w ≡ bare (onsetList o) → w .count ≡ o .count → InFrame w
 bare-framed {n} {lead} o w c h e k =
     let f = bounds n lead o c in
-    let l = length-first 0 (o .count) (o .slot) in
-    in-frame w (bare (onsetList o)) e (omega arith) (λ i j. bare-inside n (onsetList o) 3 4 i (omega arith) (f .most) (c .onsets) (omega arith))
+    let l = first-length 0 (o .count) (o .slot) in
+    in-frame w (bare (onsetList o)) e (omega arith) (λ i j. bare-inside n (onsetList o) 3 4 i (omega arith) (f .frame .most) (c .onsets) (omega arith))
 
 -- the same with the isolating border
 pub isolated-framed : {n lead : ℕ} (o : Onsets) (w : Wanted) → Case n lead (onsetList o) → 1 ≤ o .count
     → wantedList w ≡ isolated (onsetList o) → w .count ≡ o .count + 1 → InFrame w
 isolated-framed {n} {lead} o w c h e k =
     let f = bounds n lead o c in
-    let l = length-first 0 (o .count) (o .slot) in
-    in-frame w (isolated (onsetList o)) e (omega arith) (λ i j. isolated-inside n (onsetList o) i (f .most) (c .onsets) (omega arith) (omega arith))
+    let l = first-length 0 (o .count) (o .slot) in
+    in-frame w (isolated (onsetList o)) e (omega arith) (λ i j. isolated-inside n (onsetList o) i (f .frame .most) (c .onsets) (omega arith) (omega arith))
 
 -- ---- the choice between the two searches
 
