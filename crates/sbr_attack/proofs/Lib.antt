@@ -1,2 +1,2 @@
 pub mod Segments
-pub mod AttackGrids
+pub mod Attack

@@ -52,7 +52,7 @@ fn shift_count(b: WantedBorder) -> u32
     if b.onset { 2 } else { 3 }
 }
 
-// Where a shift puts a border: 0 leaves it, 1 is one slot earlier, 2 one slot later.
+// Where a shift puts a border: 0 leaves it, 1 is one slot earlier, and 2, which only the isolating border has, one slot later.
 fn placed(b: WantedBorder, shift: u32) -> u32
     requires { ⌜ (1 ≤ b .slot) × (b .slot ≤ 32) ⌝ }
     ensures { λ r. ⌜ (r ≡ place b shift) × (r ≤ 33) ⌝ }

@@ -28,12 +28,6 @@ first-replicate d zero m = refl
 first-replicate d (suc n) zero = ap {B = List _} (λ t. d ∷ t) (first-none d n)
 first-replicate d (suc n) (suc m) = ap {B = List _} (λ t. d ∷ t) (first-replicate d n m)
 
--- of a list that has n or more they are its first
-pub first-take : {A : Type 0} (d : A) (n : ℕ) (xs : List A) → n ≤ length xs → first d n xs ≡ take n xs
-first-take d zero xs h = refl
-first-take d (suc n) [] h = absurd (omega arith)
-first-take d (suc n) (x ∷ xs) h = ap {B = List _} (λ t. x ∷ t) (first-take d n xs (omega arith))
-
 -- the next law, by the list
 pad : {A : Type 0} (d : A) (n : ℕ) (xs : List A) → length xs ≤ n → first d n xs ≡ xs ++ replicate (n - length xs) d
 pad d n [] h = rw sub-zero (first-none d n)

@@ -8,7 +8,7 @@ use Rattle.sbr_grid.specs.declared.FrameClass.{FrameClass}
 use Rattle.sbr_grid.specs.declared.FrameClass.the-variants.{FixFix, FixVar, VarFix, VarVar}
 use Rattle.sbr_grid.specs.declared.SbrGrid.{SbrGrid}
 use Rattle.sbr_grid.specs.Grid.{classCode, classOf, Grid, numEnv, viewOf, recordOf}
-pub use Rattle.sbr_grid.proofs.First.{first-length as length-first, first-take, first-getD as getD-first, places, first-places as places-first, first-first}
+pub use Rattle.sbr_grid.proofs.First.{first-length as length-first, first-getD as getD-first, places, first-places as places-first, first-first}
 
 -- a class has a number below 4, which has that class
 pub class-of-code : (c : FrameClass) → classOf (classCode c) ≡ c

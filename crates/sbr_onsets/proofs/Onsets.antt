@@ -20,6 +20,13 @@ use Rattle.sbr_build.proofs.OnsetsRecord.{onsets-few, onsets-list, onsets-made}
 use Rattle.sbr_onsets.specs.Onsets.{energyAt, eight, nano, tenth, one64, half, two64, peakOf, isAttack, onsetsFrom, detectOnsets, halvesAlike}
 use Rattle.sbr_onsets.proofs.OnsetSame.{total-same}
 
+-- a test that is passed leaves the next one, and one that is not passed is the answer
+pub and-passed : (a b : Bool) → a ≡ true → (a && b) ≡ b
+and-passed a b e = rw e
+
+pub and-failed : (a b : Bool) → a ≡ false → (a && b) ≡ a
+and-failed a b e = rw e
+
 -- one energy more
 pub peak-more : (e : ℕ → Float) (n : ℕ) (peak top : Float) → peak ≡ peakOf e n → top ≡ maxOf peak (e n) → top ≡ peakOf e (n + 1)
 unfolding peakOf

@@ -11,6 +11,7 @@ use borrow.Author.Tests.{lt-ltb, le-ltb, ltb-false}
 use lib.Dec.{ltb}
 use lib.ListN.{replicate}
 use Rattle.sbr_grid.specs.Grid.{first}
+use Rattle.sbr_grid.proofs.First.{first-replicate}
 use Rattle.sbr_borders.specs.declared.WantedBorder.{WantedBorder}
 use Rattle.sbr_search.specs.declared.Cost.{Cost}
 use Rattle.sbr_search.specs.declared.Cost.the-variants.{Total, NoTotal}
@@ -132,16 +133,14 @@ module _ (m k n lead : ℕ) (ws : List WantedBorder) (is : List ℕ) (best : Opt
   unfolding tryFrom
   search-end h f = let e : m - k ≡ 0 = omega arith in rw e at f
 
--- zeros move no border
-zero-shifts : (n m : ℕ) (bs : List WantedBorder) → first {A = ℕ} 0 n (replicate m 0) ≡ map (λ w. 0) (first (onsetAt 0) n bs)
-zero-shifts zero m bs = refl
-zero-shifts (suc n) zero [] = ap {B = List ℕ} (λ t. 0 ∷ t) (zero-shifts n zero [])
-zero-shifts (suc n) zero (b ∷ bs) = ap {B = List ℕ} (λ t. 0 ∷ t) (zero-shifts n zero bs)
-zero-shifts (suc n) (suc m) [] = ap {B = List ℕ} (λ t. 0 ∷ t) (zero-shifts n m [])
-zero-shifts (suc n) (suc m) (b ∷ bs) = ap {B = List ℕ} (λ t. 0 ∷ t) (zero-shifts n m bs)
+-- a zero for each border
+zero-shifts : (n : ℕ) (bs : List WantedBorder) → replicate {A = ℕ} n 0 ≡ map (λ w. 0) (first (onsetAt 0) n bs)
+zero-shifts zero bs = refl
+zero-shifts (suc n) [] = ap {B = List ℕ} (λ t. 0 ∷ t) (zero-shifts n [])
+zero-shifts (suc n) (b ∷ bs) = ap {B = List ℕ} (λ t. 0 ∷ t) (zero-shifts n bs)
 
 -- the search tries the turns from the shifts that move no border
 pub search-begin : (n lead k m : ℕ) (bs : List WantedBorder)
     → tryFrom 24 n lead (first (onsetAt 0) k bs) (some (first 0 k (replicate m 0))) none ≡ search n lead (first (onsetAt 0) k bs)
 unfolding search
-search-begin n lead k m bs = rw (zero-shifts k m bs)
+search-begin n lead k m bs = rw (first-replicate {A = ℕ} 0 k m, zero-shifts k bs)

@@ -6,7 +6,7 @@ use borrow.Author.Tests.{le-leb, lt-leb, eq-eqb, ne-eqb}
 use borrow.Author.Needs.{needs}
 use lib.Dec.{leb}
 use Rattle.sbr_build.proofs.LengthsOf.{lengths-count, lengths-list}
-use Rattle.sbr_attack.proofs.AttackGrids.{double-from}
+use Rattle.sbr_attack.proofs.Attack.{double-from}
 use Rattle.sbr_attack.proofs.double_attack_grid.Statement.{statement}
 use Rattle.sbr_attack.proofs.double_attack_grid.Tie as tie
 

@@ -5,7 +5,7 @@ use native.Mathlib.Omega.{arith}
 use borrow.Author.Needs.{needs}
 use Rattle.sbr_build.proofs.LengthsOf.{lengths-count, lengths-list}
 use Rattle.sbr_build.specs.Build.{lengthList}
-use Rattle.sbr_attack.proofs.AttackGrids.{fixvar-from}
+use Rattle.sbr_attack.proofs.Attack.{fixvar-from}
 use Rattle.sbr_attack.proofs.fixvar_grid.Statement.{statement}
 use Rattle.sbr_attack.proofs.fixvar_grid.Tie as tie
 

@@ -4,7 +4,7 @@ use native.Mathlib.Omega.{arith}
 use borrow.Author.Tests.{lt-ltb, le-ltb, le-leb, lt-leb}
 use borrow.Author.Needs.{needs}
 use Rattle.sbr_build.proofs.LengthsOf.{lengths-count, lengths-list}
-use Rattle.sbr_attack.proofs.AttackGrids.{late-from}
+use Rattle.sbr_attack.proofs.Attack.{late-from}
 use Rattle.sbr_attack.proofs.late_attack_varvar.Statement.{statement}
 use Rattle.sbr_attack.proofs.late_attack_varvar.Tie as tie
 

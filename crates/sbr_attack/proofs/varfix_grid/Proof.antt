@@ -9,7 +9,7 @@ use lib.Dec.{ltb}
 use Rattle.sbr_build.proofs.LengthsOf.{lengths-count, lengths-list, lengths-push}
 use Rattle.sbr_build.specs.Build.{lengthList, lengthsOf}
 use Rattle.sbr_attack.specs.Attack.{varfixSegs}
-use Rattle.sbr_attack.proofs.AttackGrids.{varfix-from}
+use Rattle.sbr_attack.proofs.Attack.{varfix-from}
 use Rattle.sbr_attack.proofs.varfix_grid.Statement.{statement}
 use Rattle.sbr_attack.proofs.varfix_grid.Tie as tie
 

@@ -4,7 +4,7 @@ use borrow.Author.Needs.{needs}
 use lib.Ieee as Ieee
 use lib.Ieee.{binary64}
 use Rattle.sbr_onsets.specs.Onsets.{energyAt, one64, half, two64, halvesAlike}
-use Rattle.sbr_onsets.proofs.Onsets.{halves-is}
+use Rattle.sbr_onsets.proofs.Onsets.{and-passed, and-failed, halves-is}
 use Rattle.sbr_onsets.proofs.halves_alike.Statement.{statement}
 use Rattle.sbr_onsets.proofs.halves_alike.Tie as tie
 
@@ -27,10 +27,10 @@ sum-of-requires-2 : tie.Need-sum-of-requires-2
 sum-of-requires-2 c κs = search needs
 
 returns : tie.Need-returns
-returns c = sym (tests (c .before) ∙ rw (c .if1 .taken))
+returns c = sym (tests (c .before) ∙ and-passed _ _ (c .if1 .taken))
 
 returns-2 : tie.Need-returns-2
-returns-2 c = c .if1 .left ∙ sym (tests (c .before) ∙ rw (c .if1 .left))
+returns-2 c = sym (tests (c .before) ∙ and-failed _ _ (c .if1 .left))
 
 pub halves-alike-spec : {M : Type 1} → statement M
 halves-alike-spec =

@@ -6,7 +6,7 @@ use lib.Ieee as Ieee
 use lib.Ieee.{Float, binary64}
 use Rattle.sbr_floats.specs.Floats.{floor64}
 use Rattle.sbr_onsets.specs.Onsets.{energyAt, eight, nano, tenth, isAttack}
-use Rattle.sbr_onsets.proofs.Onsets.{attack-is}
+use Rattle.sbr_onsets.proofs.Onsets.{and-passed, and-failed, attack-is}
 use Rattle.sbr_onsets.proofs.is_attack.Statement.{statement}
 use Rattle.sbr_onsets.proofs.is_attack.Tie as tie
 
@@ -31,7 +31,7 @@ two : (c : tie.Joined1)
     → let s = c .before .before .before .before .before .before .before in
     c .if1 .if2
     ≡ (Ieee.lt (Ieee.add binary64 (Ieee.mul binary64 eight (c .before .before .min .result)) nano) (now s) && Ieee.lt (Ieee.mul binary64 tenth (s .args .peak)) (now s))
-two c = ⊎-elim (λ w. rw (w .0 .taken) (w .1)) (λ w. rw (w .0 .left) (w .1 ∙ w .0 .left)) (c .if1 .came)
+two c = ⊎-elim (λ w. w .1 ∙ sym (and-passed _ _ (w .0 .taken))) (λ w. w .1 ∙ sym (and-failed _ _ (w .0 .left))) (c .if1 .came)
 
 sub-sum-of : tie.Need-sub-sum-of
 sub-sum-of c = search needs
