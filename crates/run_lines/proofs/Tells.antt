@@ -14,7 +14,7 @@ use Rattle.sbr_grid.specs.declared.SbrGrid.{SbrGrid}
 use Rattle.sbr_grid.specs.declared.TimeGrid.{TimeGrid}
 use Rattle.sbr_grid.specs.Grid.{classCode, classOf}
 use Rattle.sbr_grid.proofs.Laws.{class-of-code, code-lt}
-use Rattle.run_lines.specs.Number.{withDigit, withDigits, markNumber, digitsOf, frameNumber, Digits, Alike, NumberTells}
+use Rattle.run_lines.specs.Number.{withDigit, withDigits, markNumber, digitsOf, frameNumber, Digits, NumberTells}
 
 -- ---- digits
 

@@ -36,7 +36,7 @@ pub record Digits (g : SbrGrid) (t : TimeGrid) : Type 0 where
   pub noise : length (t .«t_q») ≡ 3
   pub small : (k : ℕ) → getD (digitsOf g t) k 0 < 32
 
-pub record Alike (g h : SbrGrid) (t u : TimeGrid) : Type 0 where
+pub record SameFrame (g h : SbrGrid) (t u : TimeGrid) : Type 0 where
   pub classes : g .«frame_class» ≡ h .«frame_class»
   pub flags : g .«freq_res» ≡ h .«freq_res»
   pub counts : t .«num_env» ≡ u .«num_env»
@@ -47,4 +47,4 @@ pub record Alike (g h : SbrGrid) (t u : TimeGrid) : Type 0 where
 -- frames that differ in a respect have different numbers
 abbrev pub NumberTells : Type 0
 NumberTells =
-    (g h : SbrGrid) (t u : TimeGrid) → Digits g t → Digits h u → frameNumber g t ≡ frameNumber h u → Alike g h t u
+    (g h : SbrGrid) (t u : TimeGrid) → Digits g t → Digits h u → frameNumber g t ≡ frameNumber h u → SameFrame g h t u

@@ -15,7 +15,7 @@ use Rattle.sbr_grid.specs.Grid.{Grid, numEnv}
 use Rattle.sbr_grid.specs.Times.{Times}
 use Rattle.sbr_time_grid.specs.TimeGrid.{timeGrid}
 use Rattle.sbr_build.specs.Cases.{OnsetsFrom, Case}
-use Rattle.sbr_time_grid.proofs.Laws.{slot-range}
+use Rattle.sbr_grid.proofs.Slots.{slot-range}
 use Rattle.sbr_choice.specs.Choice.{chosenGrid}
 use Rattle.sbr_choice.specs.Chosen.{Sound, ChosenIsSound}
 use Rattle.sbr_choice.proofs.Computed.{timesOf, chosenOf}

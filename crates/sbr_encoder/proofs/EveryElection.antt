@@ -11,7 +11,7 @@ use Rattle.sbr_grid.specs.declared.FrameClass.the-variants.{FixFix, FixVar, Var
 use Rattle.sbr_grid.specs.Refusals.{Outcome, answered}
 use Rattle.sbr_grid.specs.Grid.{byClass, Grid}
 use Rattle.sbr_grid.specs.Times.{slotCount}
-use Rattle.sbr_grid.proofs.Refusals.{unless-answered}
+use Rattle.sbr_grid.proofs.Outcomes.{unless-answered}
 use Rattle.sbr_time_grid.proofs.Ends.{time-ends}
 use Rattle.sbr_qmf.specs.Qmf.{SampleAt, columns, samplesNeeded}
 use Rattle.sbr_energy.specs.Energy.{slotEnergy}

@@ -9,7 +9,7 @@ use lib.ListN.{length}
 use Rattle.sbr_grid.specs.Refusals.{Outcome, answered, refused}
 use Rattle.sbr_grid.specs.Grid.{Grid, numEnv}
 use Rattle.sbr_grid.specs.Times.{Times, slotCount}
-use Rattle.sbr_grid.proofs.Refusals.{unless-same}
+use Rattle.sbr_grid.proofs.Outcomes.{unless-same}
 use Rattle.sbr_time_grid.specs.TimeGrid.{timeGrid}
 use Rattle.sbr_time_grid.proofs.Ends.{time-ends}
 use Rattle.sbr_qmf.specs.Qmf.{SampleAt, columns, samplesNeeded, AlikeIn}

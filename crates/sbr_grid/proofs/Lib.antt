@@ -2,5 +2,4 @@ pub mod First
 pub mod Laws
 pub mod Widths
 pub mod Outcomes
-pub mod Refusals
 pub mod Slots

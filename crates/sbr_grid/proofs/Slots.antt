@@ -15,3 +15,6 @@ slot-range n e = go (ℕ-discrete n 15)
     go : Dec (n ≡ 15) → (15 ≤ n) × (n ≤ 16)
     go (yes p) = omega arith
     go (no p) = omega (arith, eqb-true n 16 (rw (ne-eqb n 15 p) at e))
+
+pub slots-few : (n : ℕ) → slotCount n ≡ true → n ≤ 16
+slots-few n e = slot-range n e .1

@@ -20,7 +20,7 @@ use Rattle.sbr_time_grid.specs.TimeGrid.{byPointer, rises, tE, tQ, lA, noiseFit
 use Rattle.sbr_time_grid.proofs.Laws.{each-class}
 use Rattle.sbr_time_grid.proofs.Borders.{length-listFrom, getD-listFrom}
 use Rattle.sbr_time_grid.proofs.Marks.{noise-meet}
-use Rattle.sbr_time_grid.proofs.Answers.{slots-few}
+use Rattle.sbr_grid.proofs.Slots.{slots-few}
 use Rattle.sbr_time_grid.proofs.Ends.{time-passes, time-ends}
 use Rattle.sbr_parse.specs.Syntax.{sbrGrid}
 use Rattle.sbr_reader.specs.Read.{Accepted, isBorder, meets, timed, parsed, readGrid}

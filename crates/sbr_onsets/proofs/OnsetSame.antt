@@ -7,20 +7,14 @@ use native.Mathlib.Decide.{decLt}
 use borrow.Author.Tests.{lt-ltb, le-ltb}
 use lib.Ieee.{Float, nan}
 use Rattle.sbr_qmf.specs.Qmf.{SampleAt}
-use Rattle.sbr_floats.specs.Floats.{total}
 use Rattle.sbr_energy.specs.Energy.{slotEnergy, slotEnergies}
 use Rattle.sbr_energy.proofs.Laws.{energies-at}
+use Rattle.sbr_energy.proofs.Alike.{total-same}
 use Rattle.sbr_onsets.specs.Onsets.{energyAt, peakOf, isAttack, onsetsFrom, detectOnsets, halvesAlike, onsetsOf}
 
 -- two functions agree below m
 abbrev pub Agree : (ℕ → Float) → (ℕ → Float) → ℕ → Type 0
 Agree e e′ m = (i : ℕ) → i < m → e i ≡ e′ i
-
--- sums of the same numbers
-pub total-same : (e e′ : ℕ → Float) (n : ℕ) → Agree e e′ n → total e n ≡ total e′ n
-unfolding total
-total-same e e′ zero h = refl
-total-same e e′ (suc n) h = rw (total-same e e′ n (λ i l. h i (omega arith)), h n (omega arith))
 
 -- the peak of the same numbers
 pub peak-same : (e e′ : ℕ → Float) (n : ℕ) → Agree e e′ n → peakOf e n ≡ peakOf e′ n

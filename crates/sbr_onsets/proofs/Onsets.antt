@@ -18,7 +18,7 @@ use Rattle.sbr_build.specs.declared.Onsets.{Onsets}
 use Rattle.sbr_build.specs.Cases.{onsetList, onsetsRecord, OnsetsFrom}
 use Rattle.sbr_build.proofs.OnsetsRecord.{onsets-few, onsets-list, onsets-made}
 use Rattle.sbr_onsets.specs.Onsets.{energyAt, eight, nano, tenth, one64, half, two64, peakOf, isAttack, onsetsFrom, detectOnsets, halvesAlike}
-use Rattle.sbr_onsets.proofs.OnsetSame.{total-same}
+use Rattle.sbr_energy.proofs.Alike.{total-same}
 
 -- a test that is passed leaves the next one, and one that is not passed is the answer
 pub and-passed : (a b : Bool) → a ≡ true → (a && b) ≡ b

@@ -15,7 +15,7 @@ use Rattle.sbr_grid.specs.declared.FrameClass.the-variants.{FixFix, FixVar, Var
 use Rattle.sbr_grid.specs.Refusals.{Outcome, answered, refused, valueOr}
 use Rattle.sbr_grid.specs.Grid.{widthFrom, ptrBits, Grid, numEnv}
 use Rattle.sbr_grid.specs.Times.{Times, slotCount}
-use Rattle.sbr_grid.proofs.Refusals.{unless-answered}
+use Rattle.sbr_grid.proofs.Outcomes.{unless-answered}
 use Rattle.sbr_time_grid.specs.TimeGrid.{byPointer, tE, rises, middleBorder, countsFit, bordersFit, noiseFits, accepts, timeGrid}
 use Rattle.sbr_writer.specs.Syntax.{gridBits}
 use Rattle.sbr_parse.specs.Syntax.{sbrGrid}

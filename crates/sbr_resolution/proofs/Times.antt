@@ -13,7 +13,7 @@ use Rattle.sbr_time_grid.specs.declared.Derived.{Derived}
 use Rattle.sbr_grid.specs.Times.{Times}
 use Rattle.sbr_time_grid.specs.TimeGrid.{tE, timeGrid, derivedOf}
 use Rattle.sbr_time_grid.proofs.Borders.{at-border}
-use Rattle.sbr_time_grid.proofs.Answers.{slots-few}
+use Rattle.sbr_grid.proofs.Slots.{slots-few}
 use Rattle.sbr_time_grid.proofs.Ends.{time-passes, time-ends}
 use Rattle.sbr_bands.specs.Tables.{entry}
 use Rattle.sbr_bands.proofs.TableLaws.{rises-step}

@@ -12,7 +12,7 @@ use Rattle.bits.specs.Bits.{putBits}
 use Rattle.bits.specs.Room.{roomFor, bitsFrom}
 use Rattle.bits.proofs.Room.{room}
 use Rattle.sbr_grid.specs.Refusals.{Outcome, answered, refused, valueOr}
-use Rattle.sbr_grid.proofs.Refusals.{unless-answered}
+use Rattle.sbr_grid.proofs.Outcomes.{unless-answered}
 use Rattle.sbr_grid.specs.Grid.{Grid, numEnv}
 use Rattle.sbr_choice.proofs.Every.{is-true}
 use Rattle.sbr_grid.specs.Times.{Times, slotCount}

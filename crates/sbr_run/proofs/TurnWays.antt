@@ -15,7 +15,7 @@ use Rattle.sbr_grid.specs.declared.TimeGrid.{TimeGrid}
 use Rattle.sbr_time_grid.specs.declared.Derived.{Derived}
 use Rattle.sbr_grid.specs.Times.{Times, timeRecord}
 use Rattle.sbr_time_grid.specs.TimeGrid.{timeGrid, derivedOf}
-use Rattle.sbr_time_grid.proofs.Answers.{slots-few}
+use Rattle.sbr_grid.proofs.Slots.{slots-few}
 use Rattle.sbr_time_grid.proofs.Ends.{time-ends, time-passes}
 use Rattle.sbr_writer.specs.declared.Written.the-variants.{To, Refused as NotWritten}
 use Rattle.sbr_writer.specs.Write.{Wrote, writeGrid, writtenOf}

@@ -5,7 +5,7 @@ use native.Mathlib.Omega.{arith}
 use lib.ListN.{getD}
 use Rattle.sbr_grid.specs.Grid.{first}
 use Rattle.sbr_grid.proofs.First.{first-length}
-use Rattle.sbr_time_grid.proofs.Laws.{slot-range}
+use Rattle.sbr_grid.proofs.Slots.{slot-range}
 use Rattle.sbr_build.specs.declared.Onsets.{Onsets}
 use Rattle.sbr_build.proofs.OnsetsRecord.{onsets-few}
 use Rattle.sbr_build.specs.Cases.{FrameBounds, OnsetsFrom, Case, onsetList}

@@ -25,9 +25,9 @@ abbrev pub beats : ℕ → Option Best → Bool
 beats total none = true
 beats total (some b) = ltb total (b .total)
 
-abbrev pub keep : List ℕ → ℕ → ℕ → Option Best → Option ℕ → Option Best
-keep is over total best none = best
-keep is over total best (some k) = some (record { total = total; plan = record { shifts = is; over = over; leading = k } })
+abbrev pub keepPlan : List ℕ → ℕ → ℕ → Option Best → Option ℕ → Option Best
+keepPlan is over total best none = best
+keepPlan is over total best (some k) = some (record { total = total; plan = record { shifts = is; over = over; leading = k } })
 
 -- the ends n + over, n + over + 1, .., j of them, for shifts of cost c that put the borders at bs
 unfoldable pub tryEnds : ℕ → ℕ → ℕ → ℕ → List ℕ → List ℕ → ℕ → Option Best → Option Best
@@ -35,7 +35,7 @@ tryEnds zero over n lead is bs c best = best
 tryEnds (suc j) over n lead is bs c best =
     tryEnds j (suc over) n lead is bs c
     (cond (ltb (lastOr lead bs) (n + over) && beats (c + over) best)
-    (keep is over (c + over) best (fit 4 0 lead (n + over) bs)) best)
+    (keepPlan is over (c + over) best (fit 4 0 lead (n + over) bs)) best)
 
 unfoldable pub tryShifts : ℕ → ℕ → List WantedBorder → List ℕ → Option Best → Option Best
 tryShifts n lead ws is best =

@@ -3,9 +3,9 @@ use mathlib.Core.Path.{_≡_, ap, _∙_}
 use mathlib.Core.Bool.{true, false, cond, and-eq-true-iff}
 use mathlib.Core.List.{List, [], _∷_}
 use Prim.Native.Nat.{ℕ, _+_, _-_, _≤_}
-use native.Mathlib.Decide.{ℕ-discrete, decLe}
+use native.Mathlib.Decide.{decLe}
 use native.Mathlib.Omega.{arith}
-use borrow.Author.Tests.{le-leb, lt-leb, ne-eqb, eqb-true}
+use borrow.Author.Tests.{le-leb, lt-leb, eqb-true}
 use lib.Dec.{leb}
 use lib.IntN.{ℤ}
 use lib.ListN.{length, getD}
@@ -18,16 +18,6 @@ use Rattle.sbr_grid.specs.Times.{slotCount}
 use Rattle.sbr_time_grid.specs.TimeGrid.{noiseFits, middleBorder, listFrom, tE, tQ, lA, accepts, timeGrid, derivedOf}
 use Rattle.sbr_time_grid.proofs.Borders.{length-listFrom, at-border}
 use Rattle.sbr_time_grid.proofs.Marks.{noise-meet}
-
--- the next law, by whether it is 15
-few-slots : (n : ℕ) → slotCount n ≡ true → Dec (n ≡ 15) → n ≤ 16
-unfolding slotCount
-few-slots n e (yes a) = omega arith
-few-slots n e (no a) = omega (arith, eqb-true n 16 (rw (ne-eqb n 15 a) at e))
-
--- a slot count is at most 16
-pub slots-few : (n : ℕ) → slotCount n ≡ true → n ≤ 16
-slots-few n e = few-slots n e (ℕ-discrete n 15)
 
 -- a slot count that is none is refused, whatever the record
 pub no-slots : (n : ℕ) (g : Grid) (d : Derived) → slotCount n ≡ false → d ≡ derivedOf (refused SlotCount) → d ≡ derivedOf (timeGrid n g)

@@ -12,7 +12,7 @@ use Rattle.sbr_grid.specs.declared.FrameClass.the-variants.{FixFix, FixVar, Var
 use Rattle.sbr_grid.specs.Refusals.{answered}
 use Rattle.sbr_grid.specs.Grid.{byClass, Grid, numEnv}
 use Rattle.sbr_grid.specs.Times.{Times, slotCount}
-use Rattle.sbr_grid.proofs.Refusals.{unless-answered}
+use Rattle.sbr_grid.proofs.Outcomes.{unless-answered}
 use Rattle.sbr_time_grid.specs.TimeGrid.{absBordLead, absBordTrail, bordersFit, tE, times, accepts, timeGrid}
 use Rattle.sbr_time_grid.proofs.Laws.{Counts, counts}
 use Rattle.sbr_time_grid.proofs.Borders.{length-listFrom, getD-listFrom}

@@ -3,8 +3,7 @@ use mathlib.Core.Path.{_≡_, refl}
 use mathlib.Core.Bool.{Bool, true, false, and-eq-true-iff}
 use Prim.Native.Nat.{ℕ, _+_, _≤_, _<_}
 use native.Mathlib.Omega.{arith}
-use native.Mathlib.Decide.{ℕ-discrete}
-use borrow.Author.Tests.{leb-true, ne-eqb, eqb-true}
+use borrow.Author.Tests.{leb-true, eqb-true}
 use denote.Enum.Declared.{tagOf}
 use lib.ListN.{length}
 use Rattle.sbr_grid.proofs.FrameClass.{the-type}
@@ -13,7 +12,6 @@ use Rattle.sbr_grid.specs.declared.FrameClass.the-variants.{FixFix, FixVar, Var
 use Rattle.sbr_grid.specs.declared.SbrGrid.{SbrGrid}
 use Rattle.sbr_grid.specs.Grid.{byClass, classOf, Grid, numEnv, viewOf}
 use Rattle.sbr_grid.proofs.Laws.{lengths}
-use Rattle.sbr_grid.specs.Times.{slotCount}
 use Rattle.sbr_time_grid.specs.TimeGrid.{nRelLead, nRelTrail, countsFit}
 
 -- a class by its tag
@@ -72,12 +70,3 @@ fit g h = omega (arith, counts (viewOf g) h, lengths g)
 pub untrue : (b : Bool) → (b ≡ true → ⊥) → false ≡ b
 untrue true h = absurd (h refl)
 untrue false h = refl
-
--- a slot count is 15 or 16
-pub slot-range : (n : ℕ) → slotCount n ≡ true → (15 ≤ n) × (n ≤ 16)
-unfolding slotCount
-slot-range n e = go (ℕ-discrete n 15)
-  where
-    go : Dec (n ≡ 15) → (15 ≤ n) × (n ≤ 16)
-    go (yes p) = omega arith
-    go (no p) = omega (arith, eqb-true n 16 (rw (ne-eqb n 15 p) at e))

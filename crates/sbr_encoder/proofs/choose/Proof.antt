@@ -9,7 +9,7 @@ use Prim.Native.Nat.{ℕ}
 use Rattle.sbr_grid.specs.Grid.{recordOf}
 use Rattle.sbr_onsets.specs.Onsets.{halvesAlike, leadOf}
 use Rattle.sbr_choice.specs.Choice.{chosenGrid}
-use Rattle.sbr_time_grid.proofs.Laws.{slot-range}
+use Rattle.sbr_grid.proofs.Slots.{slot-range}
 use Rattle.sbr_onsets.proofs.OnsetLead.{frame-case}
 use Rattle.sbr_encoder.proofs.Choices.{even-same, some-onset}
 use Rattle.sbr_encoder.specs.Election.{hasOnset}

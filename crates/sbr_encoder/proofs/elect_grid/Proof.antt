@@ -10,7 +10,7 @@ use mir.ValLaws.{toZ-ofZ}
 use Rattle.sbr_grid.specs.Times.{slotCount}
 use Rattle.sbr_bands.specs.Tables.{tablesFit}
 use Rattle.sbr_qmf.specs.Qmf.{samplesNeeded}
-use Rattle.sbr_time_grid.proofs.Laws.{slot-range}
+use Rattle.sbr_grid.proofs.Slots.{slot-range}
 use Rattle.sbr_encoder.proofs.Ways.{no-slots, no-tables, no-samples, passes}
 use Rattle.sbr_encoder.proofs.elect_grid.Statement.{statement}
 use Rattle.sbr_encoder.proofs.elect_grid.Tie as tie

@@ -2,7 +2,7 @@ use Prim.Native.Nat.{_-_}
 use native.Mathlib.Omega.{arith}
 use lib.ListN.{length}
 use Rattle.sbr_bands.proofs.TableLaws.{Tables, tables}
-use Rattle.sbr_time_grid.proofs.Laws.{slot-range}
+use Rattle.sbr_grid.proofs.Slots.{slot-range}
 use Rattle.sbr_encoder.proofs.energies.Statement.{statement}
 use Rattle.sbr_encoder.proofs.energies.Tie as tie
 

@@ -5,7 +5,7 @@ use lib.IntN.{ℤ, pos, _-ℤ_}
 use mir.Syntax.{w32, w64}
 use mir.Val.{toZ, ofZ}
 use mir.ValLaws.{toZ-ofZ}
-use Rattle.sbr_time_grid.proofs.Answers.{slots-few}
+use Rattle.sbr_grid.proofs.Slots.{slots-few}
 use Rattle.sbr_onsets.proofs.OnsetLead.{fits-wide, code-fits, code-is, held-below, held-above, Within, held-within}
 use Rattle.sbr_onsets.proofs.lead_of.Statement.{statement}
 use Rattle.sbr_onsets.proofs.lead_of.Tie as tie

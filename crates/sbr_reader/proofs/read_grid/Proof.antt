@@ -15,7 +15,7 @@ use Rattle.sbr_grid.proofs.Laws.{getD-first}
 use Rattle.sbr_grid.specs.Grid.{Grid, numEnv, viewOf}
 use Rattle.sbr_grid.specs.Refusals.{answered}
 use Rattle.sbr_time_grid.proofs.Ends.{Ends, time-ends}
-use Rattle.sbr_time_grid.proofs.Answers.{slots-few}
+use Rattle.sbr_grid.proofs.Slots.{slots-few}
 use Rattle.sbr_grid.specs.Times.{Times, slotCount}
 use Rattle.sbr_time_grid.specs.TimeGrid.{timeGrid, derivedOf}
 use Rattle.sbr_time_grid.specs.declared.Derived.{Derived}

@@ -13,7 +13,8 @@ use Rattle.sbr_time_grid.specs.TimeGrid.{countsFit, bordersFit, noiseFit
 use Rattle.sbr_time_grid.proofs.Laws.{Fit, fit}
 use Rattle.sbr_time_grid.proofs.Rises.{rises-same}
 use Rattle.sbr_time_grid.proofs.Borders.{at-border}
-use Rattle.sbr_time_grid.proofs.Answers.{slots-few, no-slots, no-grid, all-pass}
+use Rattle.sbr_time_grid.proofs.Answers.{no-slots, no-grid, all-pass}
+use Rattle.sbr_grid.proofs.Slots.{slots-few}
 use Rattle.sbr_time_grid.proofs.derive_time_grid.Statement.{statement}
 use Rattle.sbr_time_grid.proofs.derive_time_grid.Tie as tie
 
