@@ -1,8 +1,8 @@
 -- The ways out of a call of C, one law for each, and what C is given of a record and a time grid.
 use mathlib.Core.Path.{_≡_, refl, sym, ap, _∙_}
 use mathlib.Core.Bool.{false}
-use mathlib.Core.List.{List, [], _∷_, map}
-use Prim.Native.Nat.{ℕ, zero, suc}
+use mathlib.Core.List.{List, map}
+use Prim.Native.Nat.{ℕ}
 use native.Mathlib.Omega.{arith}
 use lib.IntN.{ℤ}
 use Rattle.bits.specs.Bits.{bitN}
@@ -11,6 +11,7 @@ use Rattle.sbr_grid.specs.declared.Refusal.{Refusal}
 use Rattle.sbr_grid.specs.declared.Refusal.the-variants.{SlotCount, Samples, Tables, Room, Record, TimeGrid as NoTimes, BitsEnd, EnvelopeCount, Chain}
 use Rattle.sbr_grid.specs.Refusals.{Outcome, answered, refused, numberOf, answerOf}
 use Rattle.sbr_grid.specs.Grid.{first, viewOf, recordOf, Grid}
+use Rattle.sbr_grid.proofs.First.{first-again}
 use Rattle.sbr_grid.proofs.Laws.{lengths}
 use Rattle.sbr_grid.specs.declared.TimeGrid.{TimeGrid}
 use Rattle.c_values.specs.Given.{Gives, codeOf, numbersOf, RecordGiven, recordOut}
@@ -70,12 +71,6 @@ TimesAt t te tq la = (te ≡ t .«t_e») × ((tq ≡ t .«t_q») × (la ≡ t .�
 abbrev pub RecordAt : SbrGrid → List ℕ → List ℕ → List ℕ → List ℕ → Type 0
 RecordAt g n f r0 r1 =
     (n ≡ numbersOf (viewOf g)) × ((f ≡ map bitN (first false 5 (g .«freq_res»))) × ((r0 ≡ g .«rel_bord_0») × (r1 ≡ g .«rel_bord_1»)))
-
--- padding what is padded changes nothing
-first-again : {A : Type 0} (d : A) (n : ℕ) (xs : List A) → first d n (first d n xs) ≡ first d n xs
-first-again d zero xs = refl
-first-again d (suc n) [] = ap {B = List _} (λ t. d ∷ t) (first-again d n [])
-first-again d (suc n) (x ∷ xs) = ap {B = List _} (λ t. x ∷ t) (first-again d n xs)
 
 -- what a program gives of a record
 abbrev pub shown : SbrGrid → RecordGiven

@@ -1,25 +1,16 @@
 -- Laws of the record that is formed of what C hands in.
-use mathlib.Core.Path.{_≡_, sym}
+use mathlib.Core.Path.{_≡_}
 use mathlib.Core.Bool.{true, false, and-eq-true-iff}
 use mathlib.Core.List.{List}
-use Prim.Native.Nat.{ℕ, _≤_, _<_}
+use Prim.Native.Nat.{ℕ, _≤_}
 use native.Mathlib.Omega.{arith}
 use borrow.Author.Tests.{leb-true, le-leb}
 use lib.Dec.{leb}
-use lib.ListN.{length, getD, List·getD-eq-default}
-use Rattle.sbr_grid.specs.Grid.{first, empty}
-use Rattle.sbr_grid.proofs.Laws.{length-first, getD-first}
+use lib.ListN.{length}
+use Rattle.sbr_grid.specs.Grid.{empty}
 use Rattle.c_values.specs.declared.form.Handed.{Handed}
 use Rattle.c_values.specs.declared.form.Formed.{Formed}
 use Rattle.c_values.specs.Handed.{formed}
-
--- past the count there is nothing
-pub first-past : {A : Type 0} (d : A) (n i : ℕ) (xs : List A) → n ≤ i → d ≡ getD (first d n xs) i d
-first-past d n i xs h = let k : length (first d n xs) ≤ i = rw (length-first d n xs) h in sym (List·getD-eq-default (first d n xs) d k)
-
--- nor past the list
-pub first-short : {A : Type 0} (d : A) (n i : ℕ) (xs : List A) → i < n → length xs ≤ i → d ≡ getD (first d n xs) i d
-first-short d n i xs h k = rw (getD-first d n i xs h) (sym (List·getD-eq-default xs d k))
 
 -- all that the test of what was handed in asks for, but that the trailing list has its count
 pub record Passed (h : Handed) (rel0 : List ℕ) : Type 0 where

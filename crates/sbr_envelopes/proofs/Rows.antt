@@ -1,5 +1,5 @@
 -- Laws of rows: their length, the borders between them, and one envelope more.
-use mathlib.Core.Path.{_≡_, refl, ap, sym, _∙_}
+use mathlib.Core.Path.{_≡_, refl, sym, _∙_}
 use mathlib.Core.Bool.{Bool, true, false, cond}
 use mathlib.Core.List.{List, [], _∷_, _++_, append-assoc, append-nil}
 use Prim.Native.Nat.{ℕ, zero, suc, _+_, _-_, _*_, _≤_, _<_}
@@ -11,22 +11,12 @@ use lib.Seq.{take-at, drop-append-add, drop-drop}
 use lib.Ieee.{Float}
 use Rattle.sbr_grid.specs.Refusals.{answered}
 use Rattle.sbr_grid.specs.Grid.{first}
-use Rattle.sbr_grid.proofs.Laws.{length-first}
+use Rattle.sbr_grid.proofs.First.{first-next, first-length}
 use Rattle.sbr_qmf.specs.Qmf.{SampleAt}
 use Rattle.sbr_bands.specs.Tables.{entry, Span, spansFrom, spans}
 use Rattle.sbr_means.specs.Means.{meanIn}
 use Rattle.sbr_envelopes.specs.Envelopes.{row, rows, rowsLength, numbersAfter}
 use Rattle.sbr_means.proofs.Spans.{spans-length, spans-more, spans-first, mapped-length}
-
--- the first n + 1 of a list
-pub first-more : {A : Type 0} (d : A) (n : ℕ) (xs : List A) → first d (n + 1) xs ≡ first d n xs ++ (getD xs n d ∷ [])
-first-more {A = A} d n xs = rw add-one (go n xs)
-  where
-    go : (n : ℕ) (xs : List A) → first d (suc n) xs ≡ first d n xs ++ (getD xs n d ∷ [])
-    go zero [] = refl
-    go zero (x ∷ xs) = refl
-    go (suc n) [] = ap {B = List A} (λ (t : List A). d ∷ t) (go n [])
-    go (suc n) (x ∷ xs) = ap {B = List A} (λ (t : List A). x ∷ t) (go n xs)
 
 -- the numbers of one envelope more
 row-more : (fs : List Bool) (f : Bool) (h l : ℕ) → rowsLength (fs ++ (f ∷ [])) h l ≡ rowsLength fs h l + cond f h l
@@ -41,7 +31,7 @@ length-none h l = refl
 
 -- the numbers of n + 1 envelopes
 pub length-more : (fs : List Bool) (n h l : ℕ) → rowsLength (first false (n + 1) fs) h l ≡ rowsLength (first false n fs) h l + cond (getD fs n false) h l
-length-more fs n h l = rw (first-more false n fs) (row-more (first false n fs) (getD fs n false) h l)
+length-more fs n h l = rw (first-next false n fs) (row-more (first false n fs) (getD fs n false) h l)
 
 -- n envelopes have at most 64 numbers each
 pub length-few : (fs : List Bool) (n h l : ℕ) → h ≤ 64 → l ≤ 64 → rowsLength (first false n fs) h l ≤ n * 64
@@ -84,13 +74,13 @@ module _ (x : SampleAt) (high low : List ℕ) (fr : List Bool) (t : List ℕ) wh
   rowsTo n = rows x high low (first false n fr) (spansFrom t 0 n)
 
   pub rows-long : (n : ℕ) → length (rowsTo n) ≡ rowsLength (first false n fr) (length high - 1) (length low - 1)
-  rows-long n = rows-length x high low (first false n fr) (spansFrom t 0 n) (length-first false n fr ∙ sym (spans-length t 0 n))
+  rows-long n = rows-length x high low (first false n fr) (spansFrom t 0 n) (first-length false n fr ∙ sym (spans-length t 0 n))
 
   -- the rows of one envelope more
   rows-more : (n : ℕ) → rowsTo (n + 1) ≡ rowsTo n ++ row x (cond (getD fr n false) high low) (record { from = entry t n; to = entry t (n + 1) })
   rows-more n =
-      rw (first-more false n fr, spans-more t n)
-      (rows-end x high low (first false n fr) (spansFrom t 0 n) (getD fr n false) _ (length-first false n fr ∙ sym (spans-length t 0 n)))
+      rw (first-next false n fr, spans-more t n)
+      (rows-end x high low (first false n fr) (spansFrom t 0 n) (getD fr n false) _ (first-length false n fr ∙ sym (spans-length t 0 n)))
 
 -- u with the rows of the first n envelopes in its first `at` places
 pub record Filled (x : SampleAt) (high low : List ℕ) (fr : List Bool) (t : List ℕ) (u : List Float) (n at : ℕ) (out : List Float) : Type 0 where

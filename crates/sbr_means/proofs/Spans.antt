@@ -6,7 +6,7 @@ use native.Mathlib.Nat.{add-zero, zero-add, suc-add}
 use native.Mathlib.Omega.{arith}
 use lib.ListN.{length, getD}
 use Rattle.sbr_grid.specs.Grid.{first}
-use Rattle.sbr_grid.proofs.Laws.{length-first, getD-first}
+use Rattle.sbr_grid.proofs.First.{first-length, first-getD}
 use Rattle.sbr_bands.specs.Tables.{entry, Span, spansFrom, spans}
 use Rattle.sbr_means.specs.Means.{Bands}
 use Rattle.sbr_bands.proofs.TableLaws.{Table}
@@ -80,8 +80,8 @@ spans-same xs ys i (suc k) e =
 -- the spans between the first n + 1 of a list
 pub spans-first : (xs : List ℕ) (n : ℕ) → spans (first 0 (n + 1) xs) ≡ spansFrom xs 0 n
 spans-first xs n =
-    let e : length (first 0 (n + 1) xs) - 1 ≡ n = omega (arith, length-first 0 (n + 1) xs) in
-    rw e (spans-same (first 0 (n + 1) xs) xs 0 n (λ j h l. getD-first 0 (n + 1) j xs (omega arith)))
+    let e : length (first 0 (n + 1) xs) - 1 ≡ n = omega (arith, first-length 0 (n + 1) xs) in
+    rw e (spans-same (first 0 (n + 1) xs) xs 0 n (λ j h l. first-getD 0 (n + 1) j xs (omega arith)))
 
 -- numbers that are the same for each span
 pub mapped-same : {A : Type 0} (f g : Span → A) (xs : List ℕ) (i k : ℕ)

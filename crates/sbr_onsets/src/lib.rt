@@ -5,7 +5,7 @@ ghost use mathlib.Core.Path.{_≡_};
 ghost use mathlib.Core.Bool.{true};
 ghost use Prim.Native.Nat.{_+_, _-_, _≤_, _<_};
 ghost use Rattle.sbr_floats.specs.Floats.{total};
-ghost use Rattle.sbr_build.specs.Cases.{onsetList, onsetsRecord};
+ghost use Rattle.sbr_build.specs.Cases.{onsetsRecord};
 ghost use Rattle.sbr_grid.specs.Times.{slotCount};
 ghost use Rattle.sbr_onsets.specs.Onsets.{energyAt, peakOf, isAttack, detectOnsets, halvesAlike, onsetsOf, leadOf};
 
@@ -68,7 +68,7 @@ fn detect_onsets(e: &[f64; 24], peak: f64, nts: usize) -> Onsets
 // The onsets of a frame, the peak taken over 8 slots more.
 pub fn onsets_of(e: &[f64; 24], nts: usize) -> Onsets
     requires { ⌜ nts ≤ 16 ⌝ }
-    ensures { λ r. ⌜ onsetList r ≡ onsetsOf (energyAt (now (e .entry))) nts ⌝ }
+    ensures { λ r. ⌜ r ≡ onsetsRecord (onsetsOf (energyAt (now (e .entry))) nts) ⌝ }
 {
     detect_onsets(e, peak_of(e, nts + 8), nts)
 }

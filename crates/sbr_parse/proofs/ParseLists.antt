@@ -1,32 +1,19 @@
 -- Lists of bits and of digits that are padded to the length of an array.
-use mathlib.Core.Path.{_≡_, refl, ap, _∙_}
+use mathlib.Core.Path.{_≡_, refl, _∙_}
 use mathlib.Core.Bool.{false}
-use mathlib.Core.List.{List, [], _∷_, _++_, append-assoc, reverse, reverse-append, reverse-cons}
+use mathlib.Core.List.{_++_, append-assoc, reverse, reverse-append, reverse-cons}
 use Prim.Native.Nat.{ℕ, zero, suc, _+_, _-_, _*_, _/_, _%_, _^_, _≤_, _<_}
-use native.Mathlib.Nat.{zero-add, suc-add, sub-zero, suc-sub-suc, add-zero, zero-div, mul-mod-left, div-eq-of-lt, mod-lt}
+use native.Mathlib.Nat.{zero-add, suc-add, add-zero, zero-div, mul-mod-left, div-eq-of-lt, mod-lt}
 use native.Mathlib.Omega.{arith}
 use native.Mathlib.Numerals.{add-one}
-use lib.ListN.{length, set, replicate, length-replicate, length-reverse, replicate-append-replicate}
+use lib.ListN.{set, replicate, length-replicate, length-reverse, replicate-append-replicate}
 use lib.Seq.{set-at}
 use lib.Pow.{pow-pos, shr-shr, shl-shr, field, mod-mod-pow}
+use Rattle.sbr_grid.proofs.First.{first-none, first-pad}
 use Rattle.bits.specs.Bits.{bitAt, bitsOf}
 use Rattle.bits.proofs.Numbers.{length-bitsOf, bitsOf-mod, bitsOf-split, bitsOf-join}
 use Rattle.sbr_grid.specs.Grid.{first}
 use Rattle.sbr_parse.specs.Parse.{twosOf}
-
--- the first k of nothing
-first-none : {A : Type 0} (d : A) (k : ℕ) → first d k [] ≡ replicate k d
-first-none d zero = refl
-first-none d (suc k) = ap {B = List _} (λ t. d ∷ t) (first-none d k)
-
--- a list of k that is padded to n
-pub first-pad : {A : Type 0} (d : A) (n k : ℕ) (xs : List A) → length xs ≡ k → k ≤ n → first d n xs ≡ xs ++ replicate (n - k) d
-first-pad d n k xs e h = rw (← e) (go n xs (omega arith))
-  where
-    go : (m : ℕ) (ys : List _) → length ys ≤ m → first d m ys ≡ ys ++ replicate (m - length ys) d
-    go m [] l = rw sub-zero (first-none d m)
-    go zero (y ∷ ys) l = absurd (omega arith)
-    go (suc m) (y ∷ ys) l = rw suc-sub-suc (ap {B = List _} (λ t. y ∷ t) (go m ys (omega arith)))
 
 -- one copy more, stored in a list that is padded
 pub same-more : {A : Type 0} (a d : A) (n i : ℕ) → i < n → set (replicate i a ++ replicate (n - i) d) i a ≡ replicate (i + 1) a ++ replicate (n - (i + 1)) d

@@ -8,7 +8,8 @@ use lib.ListN.{length, getD}
 use Rattle.sbr_grid.specs.declared.SbrGrid.{SbrGrid}
 use Rattle.sbr_grid.specs.Refusals.{answered}
 use Rattle.sbr_grid.specs.Grid.{first, Grid, numEnv, viewOf}
-use Rattle.sbr_grid.proofs.Laws.{first-first, getD-first, lengths}
+use Rattle.sbr_grid.proofs.Laws.{lengths}
+use Rattle.sbr_grid.proofs.First.{first-first, first-getD}
 use Rattle.sbr_time_grid.specs.declared.Derived.{Derived}
 use Rattle.sbr_grid.specs.Times.{Times}
 use Rattle.sbr_time_grid.specs.TimeGrid.{tE, timeGrid, derivedOf}
@@ -42,7 +43,7 @@ timed n g t e =
       count = q .count;
       slots = slots-few n (p .slots);
       rising = λ l h. omega (arith, at l (omega arith), at (l + 1) (omega arith), rises-step (tE n g) (numEnv g) l (r .0 .1) h);
-      end = rw (getD-first 0 6 (numEnv g) (t .tE) (omega (arith, q .few))) (q .end);
+      end = rw (first-getD 0 6 (numEnv g) (t .tE) (omega (arith, q .few))) (q .end);
       borders = rw (q .count) at (first-first 0 6 (t .tE) (omega (arith, q .few, q .count)));
     }
 
@@ -63,4 +64,4 @@ derived-count n grid t d e f = omega (arith, timed n (viewOf grid) t e .count, d
 pub border-by : (n : ℕ) (g : Grid) (t : Times) → timeGrid n g ≡ answered t → (j : ℕ) → j ≤ numEnv g → entry (t .tE) j ≤ n + 8
 border-by n g t e j h =
     let s = timed n g t e in
-    omega (arith, borders-le (first 0 6 (t .tE)) (numEnv g) (s .rising) j h, s .end, getD-first 0 6 j (t .tE) (omega (arith, s .few)))
+    omega (arith, borders-le (first 0 6 (t .tE)) (numEnv g) (s .rising) j h, s .end, first-getD 0 6 j (t .tE) (omega (arith, s .few)))

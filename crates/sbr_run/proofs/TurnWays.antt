@@ -10,7 +10,7 @@ use Rattle.sbr_grid.specs.declared.Answer.the-variants.{Given}
 use Rattle.sbr_grid.specs.declared.SbrGrid.{SbrGrid}
 use Rattle.sbr_grid.specs.Refusals.{Outcome, answered, refused}
 use Rattle.sbr_grid.specs.Grid.{Grid, numEnv, viewOf, recordOf}
-use Rattle.sbr_grid.proofs.Laws.{getD-first}
+use Rattle.sbr_grid.proofs.First.{first-getD}
 use Rattle.sbr_grid.specs.declared.TimeGrid.{TimeGrid}
 use Rattle.sbr_time_grid.specs.declared.Derived.{Derived}
 use Rattle.sbr_grid.specs.Times.{Times, timeRecord}
@@ -89,7 +89,7 @@ last-of n g t r e w =
     let m = time-ends n g t e in
     let s = slots-few n (time-passes n g t e .slots) in
     let l : lastBorder t ≡ getD (t .tE) (numEnv g) 0 = ap (λ (i : ℕ). getD (t .tE) i 0) (omega arith) in
-    rw w (record { few = omega arith; is = getD-first 0 6 (length (t .tE) - 1) (t .tE) (omega arith); small = omega arith })
+    rw w (record { few = omega arith; is = first-getD 0 6 (length (t .tE) - 1) (t .tE) (omega arith); small = omega arith })
 
 -- the time grid of a record
 pub record Timed (n : ℕ) (g : Grid) (d : Derived) : Type 0 where

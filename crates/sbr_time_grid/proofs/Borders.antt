@@ -13,7 +13,8 @@ use Rattle.sbr_grid.specs.declared.FrameClass.{FrameClass}
 use Rattle.sbr_grid.specs.declared.FrameClass.the-variants.{FixFix, FixVar, VarFix, VarVar}
 use Rattle.sbr_grid.specs.declared.SbrGrid.{SbrGrid}
 use Rattle.sbr_grid.specs.Grid.{byClass, first, Grid, numEnv, viewOf}
-use Rattle.sbr_grid.proofs.Laws.{length-first, getD-first, lengths}
+use Rattle.sbr_grid.proofs.Laws.{lengths}
+use Rattle.sbr_grid.proofs.First.{first-length, first-getD}
 use Rattle.sbr_time_grid.specs.TimeGrid.{nint, slots, absBordLead, absBordTrail, nRelLead, nRelTrail, relBordLead, relBordTrail, slotSum, listFrom, tE}
 use Rattle.sbr_time_grid.proofs.Laws.{trail-used}
 
@@ -53,8 +54,8 @@ lead-by : (k : FrameClass) (s m l num : ℕ) (rel : List ℕ) → l < byClass k 
     → byClass k s 0 (slots (getD rel l 0)) (slots (getD rel l 0)) ≡ byClass k s 0 (slots (getD (first 0 num rel) l 0)) (slots (getD (first 0 num rel) l 0))
 lead-by FixFix s m l num rel h = refl
 lead-by FixVar s m l num rel h = refl
-lead-by VarFix s m l num rel h = rw (getD-first 0 num l rel h)
-lead-by VarVar s m l num rel h = rw (getD-first 0 num l rel h)
+lead-by VarFix s m l num rel h = rw (first-getD 0 num l rel h)
+lead-by VarVar s m l num rel h = rw (first-getD 0 num l rel h)
 
 -- the slots of a leading length, read off the record
 pub lead-read : (g : SbrGrid) (n l : ℕ) → l < nRelLead (viewOf g)
@@ -66,7 +67,7 @@ lead-read g n l h =
 
 -- and of a trailing one
 pub trail-read : (g : SbrGrid) (l : ℕ) → l < nRelTrail (viewOf g) → slots (getD (g .«rel_bord_1») l 0) ≡ relBordTrail (viewOf g) l
-trail-read g l h = rw (getD-first 0 (g .«num_rel_1») l (g .«rel_bord_1») (omega (arith, trail-used (viewOf g), lengths g)))
+trail-read g l h = rw (first-getD 0 (g .«num_rel_1») l (g .«rel_bord_1») (omega (arith, trail-used (viewOf g), lengths g)))
 
 -- the last border
 pub trail-first : (f : ℕ → ℕ) (a : ℕ) → a ≡ a - slotSum f 0
@@ -113,12 +114,12 @@ getD-listFrom f i (suc k) (suc j) h = rw (getD-listFrom f (suc i) k j (omega ari
 
 -- in the array of k + 1 borders each is in its place
 pub at-border : (f : ℕ → ℕ) (m k j : ℕ) → j < m → j ≤ k → getD (first 0 m (listFrom f 0 (k + 1))) j 0 ≡ f j
-at-border f m k j h l = rw (getD-first 0 m j (listFrom f 0 (k + 1)) h, getD-listFrom f 0 (k + 1) j (omega arith), zero-add)
+at-border f m k j h l = rw (first-getD 0 m j (listFrom f 0 (k + 1)) h, getD-listFrom f 0 (k + 1) j (omega arith), zero-add)
 
 -- past the last border the array has 0
 pub past-borders : (f : ℕ → ℕ) (m k j : ℕ) → j < m → k < j → getD (first 0 m (listFrom f 0 (k + 1))) j 0 ≡ 0
 past-borders f m k j h l =
-    getD-first 0 m j (listFrom f 0 (k + 1)) h ∙ List·getD-eq-default (listFrom f 0 (k + 1)) 0 {n = j} (omega (arith, length-listFrom f 0 (k + 1)))
+    first-getD 0 m j (listFrom f 0 (k + 1)) h ∙ List·getD-eq-default (listFrom f 0 (k + 1)) 0 {n = j} (omega (arith, length-listFrom f 0 (k + 1)))
 
 -- an array of zeros has 0 at every place
 pub zeros-at : (m j : ℕ) → _≡_ {A = ℕ} (getD (replicate m 0) j 0) 0
@@ -139,5 +140,5 @@ module _ (n : ℕ) (g : Grid) (le m : ℕ) (t : List ℕ) (e : numEnv g ≡ le) 
   -- a list with the leading borders, the trailing borders and zeros is the array of the borders
   pub all-borders : length t ≡ m → t ≡ first 0 m (listFrom (tE n g) 0 (le + 1))
   all-borders l =
-      ext-getD 0 t _ (l ∙ sym (length-first 0 m (listFrom (tE n g) 0 (le + 1))))
+      ext-getD 0 t _ (l ∙ sym (first-length 0 m (listFrom (tE n g) 0 (le + 1))))
       (λ j h. place j (omega arith) (decLe j le) (decLe j (nRelLead g)))

@@ -11,12 +11,13 @@ use Rattle.sbr_grid.specs.declared.FrameClass.{FrameClass}
 use Rattle.sbr_grid.specs.declared.FrameClass.the-variants.{FixFix, FixVar, VarFix, VarVar}
 use Rattle.sbr_grid.specs.declared.SbrGrid.{SbrGrid}
 use Rattle.sbr_grid.specs.Grid.{first, viewOf, recordOf, numEnv, Grid}
-use Rattle.sbr_grid.proofs.Laws.{length-first, getD-first, lengths, view-record}
+use Rattle.sbr_grid.proofs.First.{first-drop, first-drop-past, first-length, first-getD}
+use Rattle.sbr_grid.proofs.Laws.{lengths, view-record}
 use Rattle.bits.proofs.Numbers.{length-bitsOf}
 use Rattle.sbr_grid.proofs.Widths.{pointer-width}
 use Rattle.sbr_writer.specs.Syntax.{bodyBits, gridBits}
 use Rattle.sbr_writer.specs.Write.{every, small, allAre, classFits, fieldsFit, writable}
-use Rattle.sbr_writer.proofs.Gather.{next, done, length-twos}
+use Rattle.sbr_writer.proofs.Gather.{length-twos}
 
 -- both sides of a test that passed
 pub both : (a b : Bool) → (a && b) ≡ true → (a ≡ true) × (b ≡ true)
@@ -31,16 +32,16 @@ and-false false = refl
 pub every-next : {A : Type 0} (f : A → Bool) (d : A) (n i : ℕ) (xs : List A) → i < n → f (getD xs i d) ≡ true
     → every f (drop i (first d n xs)) ≡ every f (drop (i + 1) (first d n xs))
 unfolding every
-every-next f d n i xs h e = rw (next d n i xs h, e)
+every-next f d n i xs h e = rw (first-drop d n i xs h, e)
 
 pub every-fails : {A : Type 0} (f : A → Bool) (d : A) (n i : ℕ) (xs : List A) → i < n → f (getD xs i d) ≡ false
     → every f (drop i (first d n xs)) ≡ false
 unfolding every
-every-fails f d n i xs h e = rw (next d n i xs h, e)
+every-fails f d n i xs h e = rw (first-drop d n i xs h, e)
 
 pub every-done : {A : Type 0} (f : A → Bool) (d : A) (n i : ℕ) (xs : List A) → n ≤ i → every f (drop i (first d n xs)) ≡ true
 unfolding every
-every-done f d n i xs h = rw (done d n i xs h)
+every-done f d n i xs h = rw (first-drop-past d n i xs h)
 
 pub small-at : (xs : List ℕ) (i : ℕ) → small xs ≡ true → getD xs i 0 ≤ 3
 unfolding every
@@ -112,9 +113,9 @@ pub fields-view : (g : SbrGrid) → fieldsFit (viewOf g) ≡ (
 unfolding fieldsFit
 fields-view g =
     rw (
-      length-first false (g .«num_env») (g .«freq_res»),
-      length-first 0 (g .«num_rel_0») (g .«rel_bord_0»),
-      length-first 0 (g .«num_rel_1») (g .«rel_bord_1»),
+      first-length false (g .«num_env») (g .«freq_res»),
+      first-length 0 (g .«num_rel_0») (g .«rel_bord_0»),
+      first-length 0 (g .«num_rel_1») (g .«rel_bord_1»),
     )
 
 -- what the tests of the record's numbers say
@@ -172,15 +173,15 @@ pub fix-fix-view : (g : SbrGrid) → classFits FixFix (viewOf g) ≡ (
     && allAre (getD (first false (g .«num_env») (g .«freq_res»)) 0 false) (first false (g .«num_env») (g .«freq_res»))
     )
 unfolding classFits
-fix-fix-view g = rw (length-first false (g .«num_env») (g .«freq_res»))
+fix-fix-view g = rw (first-length false (g .«num_env») (g .«freq_res»))
 
 pub fix-var-view : (g : SbrGrid) → classFits FixVar (viewOf g) ≡ (eqb (g .«num_rel_1» + 1) (g .«num_env») && leb (g .«num_env») 4)
 unfolding classFits
-fix-var-view g = rw (length-first false (g .«num_env») (g .«freq_res»), length-first 0 (g .«num_rel_1») (g .«rel_bord_1»))
+fix-var-view g = rw (first-length false (g .«num_env») (g .«freq_res»), first-length 0 (g .«num_rel_1») (g .«rel_bord_1»))
 
 pub var-fix-view : (g : SbrGrid) → classFits VarFix (viewOf g) ≡ (eqb (g .«num_rel_0» + 1) (g .«num_env») && leb (g .«num_env») 4)
 unfolding classFits
-var-fix-view g = rw (length-first false (g .«num_env») (g .«freq_res»), length-first 0 (g .«num_rel_0») (g .«rel_bord_0»))
+var-fix-view g = rw (first-length false (g .«num_env») (g .«freq_res»), first-length 0 (g .«num_rel_0») (g .«rel_bord_0»))
 
 pub var-var-view : (g : SbrGrid) → classFits VarVar (viewOf g) ≡ (
     eqb (g .«num_rel_0» + g .«num_rel_1» + 1) (g .«num_env») && leb (g .«num_rel_0») 3 && leb (g .«num_rel_1») 3
@@ -188,15 +189,15 @@ pub var-var-view : (g : SbrGrid) → classFits VarVar (viewOf g) ≡ (
 unfolding classFits
 var-var-view g =
     rw (
-      length-first false (g .«num_env») (g .«freq_res»),
-      length-first 0 (g .«num_rel_0») (g .«rel_bord_0»),
-      length-first 0 (g .«num_rel_1») (g .«rel_bord_1»),
+      first-length false (g .«num_env») (g .«freq_res»),
+      first-length 0 (g .«num_rel_0») (g .«rel_bord_0»),
+      first-length 0 (g .«num_rel_1») (g .«rel_bord_1»),
     )
 
 -- with a count that FixFix sends there is a first flag
 pub first-flag : (n : ℕ) (fl : List Bool) → (eqb n 1 || eqb n 2 || eqb n 4) ≡ true → getD (first false n fl) 0 false ≡ getD fl 0 false
 first-flag zero fl e = let z : _≡_ {A = Bool} false true = e in cc
-first-flag (suc n) fl e = getD-first false (suc n) 0 fl (omega arith)
+first-flag (suc n) fl e = first-getD false (suc n) 0 fl (omega arith)
 
 -- what the tests of the counts say
 pub one-told : (k n : ℕ) → (eqb (k + 1) n && leb n 4) ≡ true → (k + 1 ≡ n) × (n ≤ 4)

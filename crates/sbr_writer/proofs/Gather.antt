@@ -7,17 +7,17 @@ use native.Mathlib.Decide.{decLe}
 use native.Mathlib.Omega.{arith}
 use borrow.Author.Tests.{le-leb, lt-leb}
 use native.Mathlib.Nat.{add-assoc, suc-mul, mod-eq-of-lt, lt-of-lt-of-le, mul-le-mul-right}
-use native.Mathlib.Numerals.{add-one, sub-one}
+use native.Mathlib.Numerals.{sub-one}
 use lib.Pow.{shl-exact, pow-mono, pow-add}
-use lib.ListN.{length, getD, take, drop, length-append, drop-of-length-le}
-use lib.Seq.{drop-cons, take-suc, take-length}
+use lib.ListN.{length, getD, take, drop, length-append}
+use lib.Seq.{take-suc}
 use Rattle.bits.specs.Bits.{bitN, bitAt, bitsOf, numFrom}
 use Rattle.bits.specs.declared.Window.{Window}
 use Rattle.bits.proofs.Numbers.{num-from, num-after, num-append, num-lt, length-bitsOf}
 use Rattle.sbr_grid.specs.Grid.{classCode, first, ptrBits, tableWidth, Grid}
 use Rattle.sbr_grid.specs.declared.FrameClass.{FrameClass}
+use Rattle.sbr_grid.proofs.First.{first-drop, first-length, first-getD}
 use Rattle.sbr_grid.proofs.Widths.{pointer-width, width-ptr}
-use Rattle.sbr_grid.proofs.Laws.{length-first, getD-first}
 use Rattle.sbr_writer.specs.Syntax.{envCode, twos, bodyBits, gridBits}
 use Rattle.sbr_writer.specs.Code.{appended, Behind, windowFor, Space, sideBits}
 
@@ -57,15 +57,10 @@ shifted-fits w n x s h =
     rw (shifted w n x s h)
     (lt-of-lt-of-le (num-from-lt (w .value) (w .width) (bitsOf n x) (s .small)) (pow-mono {j = 32} (omega (arith, s .room, length-bitsOf n x))))
 
--- the element i, and the rest from the next one on
-pub next : {A : Type 0} (d : A) (n i : ℕ) (xs : List A) → i < n → drop i (first d n xs) ≡ getD xs i d ∷ drop (i + 1) (first d n xs)
-next d n i xs h =
-    rw (add-one, drop-cons (first d n xs) i d (rw (length-first d n xs) h), getD-first d n i xs h)
-
 pub rel-next : (w : Window) (rel : List ℕ) (n i : ℕ) → i < n
     → appended w (twos (drop i (first 0 n rel))) ≡ appended (appended w (bitsOf 2 (getD rel i 0))) (twos (drop (i + 1) (first 0 n rel)))
 unfolding twos
-rel-next w rel n i h = rw (next 0 n i rel h) (appended-append w (bitsOf 2 (getD rel i 0)) (twos (drop (i + 1) (first 0 n rel))))
+rel-next w rel n i h = rw (first-drop 0 n i rel h) (appended-append w (bitsOf 2 (getD rel i 0)) (twos (drop (i + 1) (first 0 n rel))))
 
 pub one-bit : (b : Bool) → bitsOf 1 (bitN b) ≡ b ∷ []
 unfolding bitsOf bitAt
@@ -74,7 +69,7 @@ one-bit false = refl
 
 pub flags-next : (w : Window) (fl : List Bool) (n i : ℕ) → i < n
     → appended w (drop i (first false n fl)) ≡ appended (appended w (getD fl i false ∷ [])) (drop (i + 1) (first false n fl))
-flags-next w fl n i h = rw (next false n i fl h) (appended-append w (getD fl i false ∷ []) (drop (i + 1) (first false n fl)))
+flags-next w fl n i h = rw (first-drop false n i fl h) (appended-append w (getD fl i false ∷ []) (drop (i + 1) (first false n fl)))
 
 -- from the last flag back
 pub back-next : (w : Window) (fl : List Bool) (n left : ℕ) → 0 < left → left ≤ n
@@ -82,15 +77,8 @@ pub back-next : (w : Window) (fl : List Bool) (n left : ℕ) → 0 < left → le
     ≡ appended (appended w (getD fl (left - 1) false ∷ [])) (reverse (take (left - 1) (first false n fl)))
 back-next w fl n zero h k = absurd (omega arith)
 back-next w fl n (suc j) h k =
-    rw (sub-one, take-suc (first false n fl) j false (rw (length-first false n fl) k), getD-first false n j fl k, reverse-append)
+    rw (sub-one, take-suc (first false n fl) j false (rw (first-length false n fl) k), first-getD false n j fl k, reverse-append)
     (appended-append w (getD fl j false ∷ []) (reverse (take j (first false n fl))))
-
-pub take-first : {A : Type 0} (d : A) (n : ℕ) (xs : List A) → take n (first d n xs) ≡ first d n xs
-take-first d n xs = ap (λ k. take k (first d n xs)) (sym (length-first d n xs)) ∙ take-length (first d n xs)
-
--- nothing is left
-pub done : {A : Type 0} (d : A) (n i : ℕ) (xs : List A) → n ≤ i → drop i (first d n xs) ≡ []
-done d n i xs h = let k : length (first d n xs) ≤ i = rw (length-first d n xs) h in drop-of-length-le (first d n xs) k
 
 pub appended-none : (w : Window) → appended w [] ≡ w
 unfolding numFrom

@@ -7,9 +7,11 @@ use mir.Syntax.{w32}
 use mir.ValLaws.{toZ-ofZ}
 use Prim.Native.Nat.{ℕ}
 use Rattle.sbr_grid.specs.Grid.{recordOf}
-use Rattle.sbr_onsets.specs.Onsets.{halvesAlike, leadOf}
+use Rattle.sbr_onsets.specs.Onsets.{halvesAlike, onsetsOf, leadOf}
 use Rattle.sbr_choice.specs.Choice.{chosenGrid}
 use Rattle.sbr_grid.proofs.Slots.{slot-range}
+use Rattle.sbr_build.specs.Cases.{onsetList}
+use Rattle.sbr_onsets.proofs.Onsets.{onsets-listed}
 use Rattle.sbr_onsets.proofs.OnsetLead.{frame-case}
 use Rattle.sbr_encoder.proofs.Choices.{even-same, some-onset}
 use Rattle.sbr_encoder.specs.Election.{hasOnset}
@@ -19,6 +21,10 @@ use Rattle.sbr_encoder.proofs.choose.Tie as tie
 -- the energy of a slot
 abbrev energy : tie.Start → ℕ → Float
 energy s i = getD (s .args .e .now) i nan
+
+-- the onsets, as a list
+listed : (c : tie.After-onsets-of) → onsetList (c .onsets-of .result) ≡ onsetsOf (energy (c .before)) (c .before .args .num-time-slots)
+listed c = onsets-listed _ _ (c .onsets-of .ensures)
 
 -- where there is no onset, the halves were compared
 alike : (c : tie.Joined1) → let s = c .before .before .before in
@@ -44,19 +50,20 @@ cast-choose-grid c = omega (arith, slot-range _ (c .before .before .before .befo
 choose-grid-requires : tie.Need-choose-grid-requires
 choose-grid-requires c κs =
     let s = c .before .before .before .before in
-    rw (lead-is c, c .before .before .before .onsets-of .ensures) (frame-case (s .args .num-time-slots) (s .args .t-e-last-prev) (energy s) (s .pre))
+    rw (lead-is c, listed (c .before .before .before)) (frame-case (s .args .num-time-slots) (s .args .t-e-last-prev) (energy s) (s .pre))
 
 returns : tie.Need-returns
 returns c =
     let l = c .before .before in
     let j = l .before in
     let s = j .before .before .before in
-    let o = j .before .before .onsets-of in
+    let p = j .before .before in
+    let o = p .onsets-of in
     let a = s .args in (
       c .before .choose-grid .ensures
           ∙ ap recordOf (even-same (a .variable-borders) (j .if1 .even) (halvesAlike (energy s) (a .num-time-slots)) (l .lead-of .result) (a .num-time-slots) (o .result) (alike j))
-          ∙ (λ i. recordOf (chosenGrid (a .variable-borders) (halvesAlike (energy s) (a .num-time-slots)) (o .ensures i) (lead-is l i) (a .num-time-slots))),
-      some-onset (o .result .count) (o .result .slot) ∙ ap hasOnset (o .ensures),
+          ∙ (λ i. recordOf (chosenGrid (a .variable-borders) (halvesAlike (energy s) (a .num-time-slots)) (listed p i) (lead-is l i) (a .num-time-slots))),
+      some-onset (o .result .count) (o .result .slot) ∙ ap hasOnset (listed p),
     )
 
 pub choose-spec : {M : Type 1} → statement M

@@ -1,5 +1,4 @@
 use borrow.Author.Needs.{needs}
-use Rattle.sbr_onsets.proofs.Onsets.{onsets-listed}
 use Rattle.sbr_onsets.proofs.onsets_of.Statement.{statement}
 use Rattle.sbr_onsets.proofs.onsets_of.Tie as tie
 
@@ -13,7 +12,7 @@ detect-onsets-requires : tie.Need-detect-onsets-requires
 detect-onsets-requires c κs = search needs
 
 returns : tie.Need-returns
-returns c = onsets-listed _ _ (rw (c .before .peak-of .ensures) at (c .detect-onsets .ensures))
+returns c = rw (c .before .peak-of .ensures) at (c .detect-onsets .ensures)
 
 pub onsets-of-spec : {M : Type 1} → statement M
 onsets-of-spec = tie.close (tie.spec add-peak-of peak-of-requires detect-onsets-requires returns)

@@ -5,7 +5,8 @@ use mathlib.Core.Path.{_≡_, refl}
 use Prim.Native.Nat.{_-_, _≤_}
 use native.Mathlib.Omega.{arith}
 use lib.ListN.{length-replicate, replicate}
-use Rattle.sbr_parse.proofs.ParseLists.{first-pad, same-more}
+use Rattle.sbr_parse.proofs.ParseLists.{same-more}
+use Rattle.sbr_grid.proofs.First.{first-pad}
 use Rattle.sbr_parse.proofs.same.Statement.{statement}
 use Rattle.sbr_parse.proofs.same.Tie as tie
 

@@ -11,7 +11,7 @@ use lib.ListN.{length, getD}
 use Rattle.bits.specs.Room.{endOf, windowOf}
 use Rattle.bits.proofs.Numbers.{length-bitsOf}
 use Rattle.bits.specs.declared.Window.{Window}
-use Rattle.sbr_grid.proofs.Laws.{getD-first}
+use Rattle.sbr_grid.proofs.First.{first-getD}
 use Rattle.sbr_grid.specs.Grid.{Grid, numEnv, viewOf}
 use Rattle.sbr_grid.specs.Refusals.{answered}
 use Rattle.sbr_time_grid.proofs.Ends.{Ends, time-ends}
@@ -84,7 +84,7 @@ ends c = time-ends _ _ _ (timed c .1)
 border : (c : tie.After-enum-told2) (i : ℕ) → i < 6 → getD (c .before .before .derive-time-grid .result .time .«t_e») i 0 ≡ getD (timed c .0 .tE) i 0
 border c i h =
     ap (λ (x : Derived). getD (x .time .«t_e») i 0) (derived (c .before .before) ∙ ap derivedOf (timed c .1))
-    ∙ getD-first 0 6 i (timed c .0 .tE) h
+    ∙ first-getD 0 6 i (timed c .0 .tE) h
 
 -- the count of envelopes that was parsed
 count : (c : tie.After-enum-told2) → window (told c) .sbr-grid .result .grid .«num_env» ≡ numEnv (got (told c) .0 .0)

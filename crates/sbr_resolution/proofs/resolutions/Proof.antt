@@ -7,7 +7,8 @@ use Rattle.sbr_qmf.specs.Qmf.{columns}
 use Rattle.sbr_bands.specs.Tables.{entry, spansFrom}
 use Rattle.sbr_resolution.specs.Resolution.{electFreqRes}
 use Rattle.sbr_means.proofs.Spans.{spans-first, mapped-length, mapped-more}
-use Rattle.sbr_resolution.proofs.Borders.{first-set, ready-upto}
+use Rattle.sbr_grid.proofs.First.{first-append}
+use Rattle.sbr_resolution.proofs.Borders.{ready-upto}
 use native.Mathlib.Omega.{arith}
 use Rattle.sbr_resolution.proofs.resolutions.Statement.{statement}
 use Rattle.sbr_resolution.proofs.resolutions.Tie as tie
@@ -59,7 +60,7 @@ loop-again c =
     let f = electFreqRes (columns (a .x .now)) (a .high .now) (a .low .now) in (
       omega arith,
       rw (l .inv .1, c .elect-freq-res .ensures, mapped-more f (a .t4) (l .l))
-          (first-set false (f (record { from = entry (a .t4) (l .l); to = entry (a .t4) (l .l + 1) })) 5 (l .l) (map f (spansFrom (a .t4) 0 (l .l))) (mapped-length f (a .t4) 0 (l .l)) (omega arith)),
+          (first-append false 5 (l .l) (map f (spansFrom (a .t4) 0 (l .l))) (f (record { from = entry (a .t4) (l .l); to = entry (a .t4) (l .l + 1) })) (mapped-length f (a .t4) 0 (l .l)) (omega arith)),
     )
 
 returns : tie.Need-returns Inv-loop μ-loop

@@ -1,7 +1,7 @@
 -- `c_values::form::entries` meets its contract.
 use borrow.Author.Needs.{needs}
 use Rattle.sbr_grid.specs.Grid.{first}
-use Rattle.sbr_grid.proofs.Laws.{places-first}
+use Rattle.sbr_grid.proofs.First.{first-places}
 use Rattle.c_values.proofs.form.entries.Statement.{statement}
 use Rattle.c_values.proofs.form.entries.Tie as tie
 
@@ -21,7 +21,7 @@ returns : tie.Need-returns
 returns c =
     let a = c .before .before .before .before .before .args in
     rw (c .before .before .before .entry .ensures, c .before .before .entry2 .ensures, c .before .entry3 .ensures, c .entry4 .ensures)
-    (places-first 0 4 0 (first 0 (a .count) (a .range .now)))
+    (first-places 0 4 0 (first 0 (a .count) (a .range .now)))
 
 pub entries-spec : {M : Type 1} → statement M
 entries-spec =

@@ -4,7 +4,7 @@ use mathlib.Core.Bool.{false}
 use mathlib.Core.List.{map}
 use lib.Dec.{eqb}
 use Rattle.sbr_grid.specs.Grid.{first}
-use Rattle.sbr_grid.proofs.Laws.{places-first}
+use Rattle.sbr_grid.proofs.First.{first-places}
 use Rattle.c_values.proofs.form.flags.Statement.{statement}
 use Rattle.c_values.proofs.form.flags.Tie as tie
 
@@ -33,7 +33,7 @@ returns c =
       c .before .flag4 .ensures,
       c .flag5 .ensures,
     )
-    (places-first false 5 0 (map (λ b. eqb b 1) (first 0 (a .count) (a .range .now))))
+    (first-places false 5 0 (map (λ b. eqb b 1) (first 0 (a .count) (a .range .now))))
 
 pub flags-spec : {M : Type 1} → statement M
 flags-spec =

@@ -1,7 +1,7 @@
 -- `c_values::form::record` meets its contract.
 use borrow.Author.Needs.{needs}
 use lib.ListN.{length-map}
-use Rattle.sbr_grid.proofs.Laws.{length-first}
+use Rattle.sbr_grid.proofs.First.{first-length}
 use Rattle.c_values.proofs.form.record.Statement.{statement}
 use Rattle.c_values.proofs.form.record.Tie as tie
 
@@ -21,7 +21,7 @@ returns : tie.Need-returns
 returns c =
     let f = c .before .before in
     rw (f .before .from-bits .ensures, f .flags .ensures, c .before .entries .ensures, c .entries2 .ensures)
-    (simp (length-map, length-first))
+    (simp (length-map, first-length))
 
 pub record-spec : {M : Type 1} → statement M
 record-spec =

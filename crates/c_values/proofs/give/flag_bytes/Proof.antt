@@ -4,7 +4,7 @@ use mathlib.Core.Path.{ap}
 use mathlib.Core.Bool.{false}
 use mathlib.Core.List.{map}
 use Rattle.bits.specs.Bits.{bitN}
-use Rattle.sbr_grid.proofs.Laws.{places-first}
+use Rattle.sbr_grid.proofs.First.{first-places}
 use Rattle.c_values.proofs.give.flag_bytes.Statement.{statement}
 use Rattle.c_values.proofs.give.flag_bytes.Tie as tie
 
@@ -48,7 +48,7 @@ returns c =
       c .before .bit4 .ensures,
       c .bit5 .ensures,
     )
-    (ap (map bitN) (places-first false 5 0 (a .grid .«freq_res»)))
+    (ap (map bitN) (first-places false 5 0 (a .grid .«freq_res»)))
 
 pub flag-bytes-spec : {M : Type 1} → statement M
 flag-bytes-spec =

@@ -1,7 +1,7 @@
 -- `sbr_writer::code::fix_fix` meets its contract.
 use mathlib.Core.Bool.{false}
 use Rattle.bits.proofs.Numbers.{length-bitsOf}
-use Rattle.sbr_grid.proofs.Laws.{length-first, getD-first}
+use Rattle.sbr_grid.proofs.First.{first-length, first-getD}
 use Rattle.sbr_writer.specs.Syntax.{bodyBits}
 use Rattle.sbr_writer.proofs.Gather.{chain, space-then, env-code-lt}
 use native.Mathlib.Omega.{arith}
@@ -29,7 +29,7 @@ unfolding bodyBits
 returns c =
     let p = c .before .before in
     let g = p .before .before .args .g in
-    rw (length-first false (g .«num_env») (g .«freq_res»), getD-first false (g .«num_env») 0 (g .«freq_res») (omega (arith, p .before .before .pre .1)), ← p .before .env-code .ensures)
+    rw (first-length false (g .«num_env») (g .«freq_res»), first-getD false (g .«num_env») 0 (g .«freq_res») (omega (arith, p .before .before .pre .1)), ← p .before .env-code .ensures)
     (chain (p .push .ensures) (c .push-flag .ensures))
 
 pub fix-fix-spec : {M : Type 1} → statement M

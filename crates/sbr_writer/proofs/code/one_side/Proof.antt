@@ -2,7 +2,7 @@
 use mathlib.Core.Path.{_∙_}
 use Prim.Native.Nat.{_+_, _≤_}
 use Rattle.sbr_grid.specs.Grid.{first}
-use Rattle.sbr_grid.proofs.Laws.{length-first}
+use Rattle.sbr_grid.proofs.First.{first-length}
 use Rattle.sbr_grid.proofs.Widths.{width-ptr}
 use Rattle.sbr_writer.proofs.Gather.{length-twos, chain, space-then, space-field, narrow, pointer-fits, pointer-narrow}
 use Rattle.sbr_writer.specs.Code.{Space}
@@ -45,7 +45,7 @@ push-requires-3 c κs =
     let r = c .before .before in
     let w : c .ptr-bits .result ≤ 3 = pointer-narrow (k + 1) _ (omega arith) (omega (arith, s .pre .2)) (c .ptr-bits .ensures) in (
       space-then (after2 r) (c .before .push-rel .ensures)
-          (omega (arith, length-twos (first 0 k (s .args .rel)), length-first 0 k (s .args .rel), s .pre .2)),
+          (omega (arith, length-twos (first 0 k (s .args .rel)), first-length 0 k (s .args .rel), s .pre .2)),
       pointer-fits (k + 1) (s .args .pointer) _ (omega arith) (omega (arith, s .pre .2)) (s .pre .4) (c .ptr-bits .ensures),
     )
 
@@ -55,7 +55,7 @@ returns c =
     let s = b .before .before .before .before in
     let k = s .args .count in
     let e = b .ptr-bits .ensures ∙ width-ptr (k + 1) (omega arith) (omega (arith, s .pre .2)) in
-    rw (length-first 0 k (s .args .rel), ← e)
+    rw (first-length 0 k (s .args .rel), ← e)
     (chain (b .before .before .before .push .ensures) (chain (b .before .before .push2 .ensures) (chain (b .before .push-rel .ensures) (c .push3 .ensures))))
 
 pub one-side-spec : {M : Type 1} → statement M

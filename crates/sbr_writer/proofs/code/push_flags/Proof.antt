@@ -5,9 +5,10 @@ use mathlib.Core.List.{[], _∷_}
 use Prim.Native.Nat.{_-_, _≤_}
 use native.Mathlib.Nat.{sub-zero}
 use lib.ListN.{length, getD, drop}
+use Rattle.sbr_grid.proofs.First.{first-drop-past}
 use Rattle.sbr_grid.specs.Grid.{first}
 use Rattle.sbr_writer.specs.Code.{appended, Space}
-use Rattle.sbr_writer.proofs.Gather.{space-after, flags-next, done, appended-none}
+use Rattle.sbr_writer.proofs.Gather.{space-after, flags-next, appended-none}
 use borrow.Author.Needs.{needs}
 use native.Mathlib.Omega.{arith}
 use Rattle.sbr_writer.proofs.code.push_flags.Statement.{statement}
@@ -51,7 +52,7 @@ returns : tie.Need-returns Inv-loop μ-loop
 returns c =
     let s = c .before .loop in
     let a = c .before .before .args in
-    record { is = sym (appended-none (s .out)) ∙ sym (ap (λ t. appended (s .out) t) (done false (a .count) (s .i) (a .t2) (omega arith))) ∙ s .inv .3 }
+    record { is = sym (appended-none (s .out)) ∙ sym (ap (λ t. appended (s .out) t) (first-drop-past false (a .count) (s .i) (a .t2) (omega arith))) ∙ s .inv .3 }
 
 pub push-flags-spec : {M : Type 1} → statement M
 push-flags-spec =

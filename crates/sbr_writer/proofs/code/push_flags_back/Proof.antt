@@ -4,9 +4,10 @@ use mathlib.Core.Bool.{false}
 use mathlib.Core.List.{[], _∷_, reverse}
 use Prim.Native.Nat.{_-_, _≤_}
 use lib.ListN.{length, getD, take}
+use Rattle.sbr_grid.proofs.First.{first-taken}
 use Rattle.sbr_grid.specs.Grid.{first}
 use Rattle.sbr_writer.specs.Code.{appended, Space}
-use Rattle.sbr_writer.proofs.Gather.{space-after, back-next, take-first, appended-none}
+use Rattle.sbr_writer.proofs.Gather.{space-after, back-next, appended-none}
 use borrow.Author.Needs.{needs}
 use native.Mathlib.Omega.{arith}
 use Rattle.sbr_writer.proofs.code.push_flags_back.Statement.{statement}
@@ -20,7 +21,7 @@ abbrev μ-loop : tie.MeasureT-loop
 μ-loop count flags out₀ left₀ out left = left
 
 loop-holds : tie.Need-loop-holds Inv-loop μ-loop
-loop-holds c = (omega arith, search needs, c .pre .0, rw (take-first false (c .args .count) (c .args .t2)))
+loop-holds c = (omega arith, search needs, c .pre .0, rw (first-taken false (c .args .count) (c .args .count) (c .args .t2) (omega arith)))
 
 sub-left : tie.Need-sub-left Inv-loop μ-loop
 sub-left c = omega arith

@@ -3,13 +3,13 @@ use native.Mathlib.Nat.{sub-zero}
 use lib.ListN.{getD, length, drop}
 use Rattle.bits.specs.Bits.{bitsOf}
 use Rattle.bits.proofs.Numbers.{length-bitsOf}
-use Rattle.sbr_grid.proofs.Laws.{getD-first}
+use Rattle.sbr_grid.proofs.First.{first-drop-past, first-getD}
 use mathlib.Core.Path.{_≡_, refl, sym, ap, _∙_}
 use Prim.Native.Nat.{_*_, _-_, _≤_}
 use Rattle.sbr_grid.specs.Grid.{first}
 use Rattle.sbr_writer.specs.Syntax.{twos}
 use Rattle.sbr_writer.specs.Code.{appended, Space}
-use Rattle.sbr_writer.proofs.Gather.{space-after, rel-next, done, appended-none}
+use Rattle.sbr_writer.proofs.Gather.{space-after, rel-next, appended-none}
 use Rattle.sbr_writer.proofs.Facts.{small-at}
 use borrow.Author.Needs.{needs}
 use native.Mathlib.Omega.{arith}
@@ -37,7 +37,7 @@ push-requires c κs =
     let s = c .before .loop in
     let a = c .before .before in (
       record { room = omega (arith, s .inv .2 .room); small = s .inv .2 .small },
-      omega (arith, small-at (first 0 (a .args .count) (a .args .t2)) (s .i) (a .pre .2), getD-first 0 (a .args .count) (s .i) (a .args .t2) (omega arith)),
+      omega (arith, small-at (first 0 (a .args .count) (a .args .t2)) (s .i) (a .pre .2), first-getD 0 (a .args .count) (s .i) (a .args .t2) (omega arith)),
     )
 
 add-i : tie.Need-add-i Inv-loop μ-loop
@@ -61,7 +61,7 @@ unfolding twos
 returns c =
     let s = c .before .loop in
     let a = c .before .before .args in
-    record { is = sym (appended-none (s .out)) ∙ sym (ap (λ t. appended (s .out) (twos t)) (done 0 (a .count) (s .i) (a .t2) (omega arith))) ∙ s .inv .3 }
+    record { is = sym (appended-none (s .out)) ∙ sym (ap (λ t. appended (s .out) (twos t)) (first-drop-past 0 (a .count) (s .i) (a .t2) (omega arith))) ∙ s .inv .3 }
 
 pub push-rel-spec : {M : Type 1} → statement M
 push-rel-spec =

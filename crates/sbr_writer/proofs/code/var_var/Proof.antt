@@ -6,7 +6,7 @@ use lib.ListN.{length-append}
 use Rattle.bits.specs.Bits.{bitsOf}
 use Rattle.bits.proofs.Numbers.{length-bitsOf}
 use Rattle.sbr_grid.specs.Grid.{first}
-use Rattle.sbr_grid.proofs.Laws.{length-first}
+use Rattle.sbr_grid.proofs.First.{first-length}
 use Rattle.sbr_grid.proofs.Widths.{width-ptr}
 use Rattle.sbr_writer.specs.Syntax.{bodyBits}
 use Rattle.sbr_writer.specs.Code.{Space}
@@ -33,14 +33,14 @@ space2 c =
     let s = c .before .before .before in
     let g = s .args .g in
     space-then (space1 (c .before .before)) (c .push-rel .ensures)
-    (simp (length-twos, length-first 0 (g .«num_rel_0») (g .«rel_bord_0»)) (omega (arith, counts s .1)))
+    (simp (length-twos, first-length 0 (g .«num_rel_0») (g .«rel_bord_0»)) (omega (arith, counts s .1)))
 
 space3 : (c : tie.After-push-rel2) → Space (c .push-rel2 .result) 8
 space3 c =
     let s = c .before .before .before .before .before in
     let g = s .args .g in
     space-then (space2 (c .before .before)) (c .push-rel2 .ensures)
-    (simp (length-twos, length-first 0 (g .«num_rel_1») (g .«rel_bord_1»)) (omega (arith, counts s .0, fields s .numbers .most)))
+    (simp (length-twos, first-length 0 (g .«num_rel_1») (g .«rel_bord_1»)) (omega (arith, counts s .0, fields s .numbers .most)))
 
 width : (c : tie.After-ptr-bits) → c .ptr-bits .result ≤ 3
 width c =
@@ -92,11 +92,11 @@ returns c =
     let g = s .args .g in
     let e = p .before .ptr-bits .ensures ∙ width-ptr (g .«num_env») (omega (arith, fields s .numbers .some)) (fields s .numbers .most) in
     rw (
-      length-first false (g .«num_env») (g .«freq_res»),
+      first-length false (g .«num_env») (g .«freq_res»),
       ← e,
       ← var-var-bits (g .«var_bord_0») (g .«var_bord_1») (first 0 (g .«num_rel_0») (g .«rel_bord_0»)) (first 0 (g .«num_rel_1») (g .«rel_bord_1»)) (g .«num_rel_0») (g .«num_rel_1»)
           (bitsOf (p .before .ptr-bits .result) (g .pointer)) (first false (g .«num_env») (g .«freq_res»))
-          (sym (length-first 0 (g .«num_rel_0») (g .«rel_bord_0»))) (sym (length-first 0 (g .«num_rel_1») (g .«rel_bord_1»))),
+          (sym (first-length 0 (g .«num_rel_0») (g .«rel_bord_0»))) (sym (first-length 0 (g .«num_rel_1») (g .«rel_bord_1»))),
     )
     (chain (q .before .before .before .before .two-counts .ensures) (chain (q .before .before .push-rel .ensures) (chain (q .push-rel2 .ensures) (chain (p .push .ensures) (c .push-flags .ensures)))))
 
