@@ -1,3 +1,4 @@
 pub mod Nans
 pub mod Prefix
 pub mod Signs
+pub mod Records

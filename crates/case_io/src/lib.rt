@@ -11,12 +11,19 @@ ghost use Prim.Native.Nat.{_≤_};
 ghost use lib.Ieee.{ofBits, binary64};
 ghost use lib.IntN.{natAbs};
 ghost use lib.ListN.{length, replicate};
+ghost use mathlib.Core.Bool.{not};
+ghost use lib.Dec.{eqb};
+ghost use Rattle.sbr_grid.specs.Grid.{classOf};
 ghost use Rattle.case_io.specs.Counts.{Counts};
+ghost use Rattle.case_io.specs.Layout.{numberOf, gridOf};
 
 // Most entries of a table, and most samples, that a case hands in.
 pub const MAX_TABLE: usize = 255;
 
 pub const MAX_SAMPLES: usize = 6500;
+
+// Bytes of a record.
+const RECORD_SIZE: usize = 21;
 
 // Samples that are all 0.0. Lending the array needs its length.
 pub fn silence() -> [f64; MAX_SAMPLES]
@@ -33,17 +40,29 @@ pub fn next_byte() -> u8 {
     byte[0]
 }
 
-// The number of the next `size` bytes, low byte first; at most 8.
-pub fn next_number(size: usize) -> u64 {
-    let mut value = 0u64;
-    for i in 0..8 {
-        let mut byte = 0u8;
-        if i < size {
-            byte = next_byte();
-        }
-        value = (value >> 8) | ((byte as u64) << 56);
-    }
-    value
+fn wide(byte: u8) -> u64
+    ensures value { λ r. ⌜ r ≡ byte ⌝ }
+    ensures small { λ r. ⌜ r ≤ 255 ⌝ }
+{
+    byte as u64
+}
+
+// The number of eight bytes, low byte first.
+fn number_of(b: [u8; 8]) -> u64
+    ensures { λ r. ⌜ r ≡ numberOf b ⌝ }
+{
+    let low = wide(b[0]) + 0x100 * wide(b[1]) + 0x10000 * wide(b[2]) + 0x1000000 * wide(b[3]);
+    let high = wide(b[4]) + 0x100 * wide(b[5]) + 0x10000 * wide(b[6]) + 0x1000000 * wide(b[7]);
+    low + 0x100000000 * high
+}
+
+// The number of the next `size` bytes, low byte first.
+pub fn next_number(size: usize) -> u64
+    requires { ⌜ size ≤ 8 ⌝ }
+{
+    let mut bytes = [0u8; 8];
+    io::read_full(STDIN_FILENO, &mut bytes[..size]);
+    number_of(bytes)
 }
 
 // The number of the next two bytes, or `most` where it is larger.
@@ -64,7 +83,7 @@ pub fn next_signed() -> i32 {
 }
 
 pub fn next_flag() -> bool {
-    next_byte() != 0
+    flag(next_byte())
 }
 
 // The double of a bit pattern. Those above infinity's, less the sign, are NaN's.
@@ -103,46 +122,49 @@ pub fn read_samples(x: &mut [f64]) -> usize
     count
 }
 
-fn read_flags() -> [bool; SbrGrid::MAX_NUM_ENV] {
-    let mut flags = [false; SbrGrid::MAX_NUM_ENV];
-    for i in 0..SbrGrid::MAX_NUM_ENV {
-        flags[i] = next_flag();
-    }
-    flags
+fn flag(byte: u8) -> bool
+    ensures { λ r. ⌜ r ≡ not (eqb byte 0) ⌝ }
+{
+    byte != 0
 }
 
-fn read_lengths() -> [u8; SbrGrid::MAX_REL_BORD] {
-    let mut lengths = [0u8; SbrGrid::MAX_REL_BORD];
-    io::read_full(STDIN_FILENO, &mut lengths);
-    lengths
+fn count(byte: u8) -> usize
+    ensures { λ r. ⌜ r ≡ byte ⌝ }
+{
+    byte as usize
+}
+
+fn class(byte: u8) -> FrameClass
+    ensures { λ r. ⌜ r ≡ classOf byte ⌝ }
+{
+    FrameClass::from_bits(byte as u32)
+}
+
+// The record of 21 bytes: class, counts of envelopes and noise floors, 5 resolutions, border bytes, each list's count and 4 lengths, pointer.
+fn grid_of(b: [u8; RECORD_SIZE]) -> SbrGrid
+    ensures { λ r. ⌜ r ≡ gridOf b ⌝ }
+{
+    let frame_class = class(b[0]);
+    SbrGrid {
+        frame_class,
+        num_env: count(b[1]),
+        num_noise: count(b[2]),
+        freq_res: [flag(b[3]), flag(b[4]), flag(b[5]), flag(b[6]), flag(b[7])],
+        var_bord_0: b[8],
+        var_bord_1: b[9],
+        rel_bord_0: [b[11], b[12], b[13], b[14]],
+        num_rel_0: count(b[10]),
+        rel_bord_1: [b[16], b[17], b[18], b[19]],
+        num_rel_1: count(b[15]),
+        pointer: b[20],
+        amp_res_override: false,
+    }
 }
 
 pub fn read_grid() -> SbrGrid {
-    let frame_class = FrameClass::from_bits(next_byte() as u32);
-    let num_env = next_byte() as usize;
-    let num_noise = next_byte() as usize;
-    let freq_res = read_flags();
-    let var_bord_0 = next_byte();
-    let var_bord_1 = next_byte();
-    let num_rel_0 = next_byte() as usize;
-    let rel_bord_0 = read_lengths();
-    let num_rel_1 = next_byte() as usize;
-    let rel_bord_1 = read_lengths();
-    let pointer = next_byte();
-    SbrGrid {
-        frame_class,
-        num_env,
-        num_noise,
-        freq_res,
-        var_bord_0,
-        var_bord_1,
-        rel_bord_0,
-        num_rel_0,
-        rel_bord_1,
-        num_rel_1,
-        pointer,
-        amp_res_override: false,
-    }
+    let mut bytes = [0u8; RECORD_SIZE];
+    io::read_full(STDIN_FILENO, &mut bytes);
+    grid_of(bytes)
 }
 
 pub fn print(text: &[u8]) {
@@ -184,12 +206,6 @@ pub fn print_resolutions(freq_res: [bool; SbrGrid::MAX_NUM_ENV], num_env: usize)
             }
         }
     }
-}
-
-fn wide(byte: u8) -> u64
-    ensures { λ r. ⌜ r ≡ byte ⌝ }
-{
-    byte as u64
 }
 
 // A name and the first `count` lengths.
