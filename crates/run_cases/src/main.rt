@@ -1,11 +1,9 @@
 // Drives runs of a transmitter and of a receiver through send_frame and receive_frame, and checks what is read against what was sent. The
 // turns, the readings and the bytes that are changed between them come from standard input; tools/run_cases.py says what they are.
 use libc::STDIN_FILENO;
-use libc::STDOUT_FILENO;
 use sbr_envelopes::Estimated;
 use sbr_grid::Answer;
 use sbr_grid::SbrGrid;
-use sbr_grid::TimeGrid;
 use sbr_reader::Carried;
 use sbr_run::Place;
 use sbr_run::Receiving;

@@ -61,7 +61,7 @@ fn mark_number(mark: i32) -> u64
 }
 
 // A frame in a number: class, resolutions, count of envelopes, borders, noise borders and mark. Frames that differ in one of these have different
-// numbers, where each is below 32.
+// numbers, where each is below 32 (NumberTells).
 pub fn frame_number(grid: SbrGrid, time: TimeGrid) -> u64
     ensures { λ r. ⌜ r ≡ frameNumber grid time ⌝ }
 {

@@ -15,19 +15,19 @@ use Rattle.sbr_list.specs.Listing.{decimal, spaced, resolution}
 use Rattle.sbr_list.specs.Line.{lineOf, withByte, withText, Small}
 
 -- a byte behind a line
-pub appended-byte : (w : Line) (b : ℕ) → withText w (b ∷ []) ≡ withByte w b
+pub text-byte : (w : Line) (b : ℕ) → withText w (b ∷ []) ≡ withByte w b
 unfolding withText
-appended-byte w b = refl
+text-byte w b = refl
 
 -- a text behind another is both behind the line
-pub appended-append : (w : Line) (a b : List ℕ) → withText (withText w a) b ≡ withText w (a ++ b)
+pub text-append : (w : Line) (a b : List ℕ) → withText (withText w a) b ≡ withText w (a ++ b)
 unfolding withText
-appended-append w [] b = refl
-appended-append w (x ∷ a) b = appended-append (withByte w x) a b
+text-append w [] b = refl
+text-append w (x ∷ a) b = text-append (withByte w x) a b
 
 -- a line behind which two texts were put, one after the other
 pub then : (v w r : Line) (a b : List ℕ) → w ≡ withText v a → r ≡ withText w b → r ≡ withText v (a ++ b)
-then v w r a b e f = rw (f, e, appended-append v a b)
+then v w r a b e f = rw (f, e, text-append v a b)
 
 -- the byte behind a text that is padded
 set-first : (n : ℕ) (t : List ℕ) (b : ℕ) → length t < n → set (first 0 n t) (length t) b ≡ first 0 n (t ++ (b ∷ []))
@@ -51,14 +51,14 @@ pub line-whole : (t : List ℕ) → length t ≤ 64 → withText (lineOf []) t �
 line-whole t h = line-text [] t (omega arith)
 
 -- one turn of a loop that appends a text byte by byte
-pub appended-next : (w r : Line) (t : List ℕ) (j d x : ℕ) → j < length t → x ≡ getD t j d → r ≡ withText w (x ∷ [])
+pub text-next : (w r : Line) (t : List ℕ) (j d x : ℕ) → j < length t → x ≡ getD t j d → r ≡ withText w (x ∷ [])
     → withText r (drop (j + 1) t) ≡ withText w (drop j t)
-appended-next w r t j d x h e f = rw (f, e, appended-append w (getD t j d ∷ []) (drop (j + 1) t), add-one, drop-cons t j d h)
+text-next w r t j d x h e f = rw (f, e, text-append w (getD t j d ∷ []) (drop (j + 1) t), add-one, drop-cons t j d h)
 
 -- nothing is left to append
-pub appended-done : (w : Line) (t : List ℕ) (j : ℕ) → length t ≤ j → withText w (drop j t) ≡ w
+pub text-done : (w : Line) (t : List ℕ) (j : ℕ) → length t ≤ j → withText w (drop j t) ≡ w
 unfolding withText
-appended-done w t j h = rw (drop-of-length-le t {i = j} h)
+text-done w t j h = rw (drop-of-length-le t {i = j} h)
 
 -- numbers of one, two and three digits
 pub decimal-one : (n : ℕ) → n < 10 → decimal n ≡ (48 + n) ∷ []
@@ -100,8 +100,8 @@ behind-next w s r t n j h e f =
     rw (
       f,
       e,
-      appended-append (withText w (32 ∷ [])) (decimal (getD t j 0)) (behind (drop (j + 1) (first 0 n t))),
-      appended-append w (32 ∷ []) (decimal (getD t j 0) ++ behind (drop (j + 1) (first 0 n t))),
+      text-append (withText w (32 ∷ [])) (decimal (getD t j 0)) (behind (drop (j + 1) (first 0 n t))),
+      text-append w (32 ∷ []) (decimal (getD t j 0) ++ behind (drop (j + 1) (first 0 n t))),
       add-one,
       drop-cons (first 0 n t) j 0 (omega (arith, length-first 0 n t)),
       getD-first 0 n j t h,
@@ -116,7 +116,7 @@ spaced-done w s r t n j h e f l =
     rw (
       spaced-first (first 0 n t) (omega arith),
       getD-first 0 n 0 t h,
-      ← (appended-append w (decimal (getD t 0 0)) (behind (drop 1 (first 0 n t)))),
+      ← (text-append w (decimal (getD t 0 0)) (behind (drop 1 (first 0 n t)))),
       ← e,
       ← f,
       drop-of-length-le (first 0 n t) {i = j} (omega arith),
@@ -127,10 +127,10 @@ pub letter-next : (w r : Line) (t : List Bool) (n j x : ℕ) → j < n → x ≡
     → withText r (drop (j + 1) (map resolution (first false n t))) ≡ withText w (drop j (map resolution (first false n t)))
 letter-next w r t n j x h e f =
     let l = first false n t in
-    appended-next w r (map resolution l) j 76 x (omega (arith, length-map l resolution, length-first false n t))
+    text-next w r (map resolution l) j 76 x (omega (arith, length-map l resolution, length-first false n t))
     (rw (List·getD-map resolution l j false, getD-first false n j t h) e) f
 
 pub letters-done : (w : Line) (t : List Bool) (n j : ℕ) → n ≤ j → withText w (drop j (map resolution (first false n t))) ≡ w
 letters-done w t n j h =
     let l = first false n t in
-    appended-done w (map resolution l) j (omega (arith, length-map l resolution, length-first false n t))
+    text-done w (map resolution l) j (omega (arith, length-map l resolution, length-first false n t))

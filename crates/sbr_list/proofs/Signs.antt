@@ -16,7 +16,7 @@ use Rattle.sbr_grid.specs.Times.{Times}
 use Rattle.sbr_list.specs.declared.text.Line.{Line}
 use Rattle.sbr_list.specs.Listing.{decimal, signed, spaced, stroke}
 use Rattle.sbr_list.specs.Line.{withText, timesText}
-use Rattle.sbr_list.proofs.Lines.{appended-append}
+use Rattle.sbr_list.proofs.Lines.{text-append}
 
 -- the bits of a small number are its own
 pub small-bits : (z : ℤ) → mag z < 1000 → toZ w32 (ofZ w32 z) ≡ z
@@ -80,7 +80,7 @@ plain (negsuc n) e = let z : _≡_ {A = ℕ} 0 1 = cc in absurd (omega arith)
 pub signed-negative : (w s r : Line) (z : ℤ) (m : ℕ) → mag z < 100 → ltZ (toZ w32 (ofZ w32 z)) (pos 0) ≡ true → s ≡ withText w (45 ∷ [])
     → m ≡ natAbs (toZ w32 (ofZ w32 z)) → r ≡ withText s (decimal m) → r ≡ withText w (signed z)
 signed-negative w s r z m h t e f g =
-    rw (minus z (sign-told z true (omega arith) t), g, e, f, small-bits z (omega arith), appended-append w (45 ∷ []) (decimal (natAbs z)))
+    rw (minus z (sign-told z true (omega arith) t), g, e, f, small-bits z (omega arith), text-append w (45 ∷ []) (decimal (natAbs z)))
 
 pub signed-whole : (w r : Line) (z : ℤ) (m : ℕ) → mag z < 100 → ltZ (toZ w32 (ofZ w32 z)) (pos 0) ≡ false
     → m ≡ natAbs (toZ w32 (ofZ w32 z)) → r ≡ withText w (decimal m) → r ≡ withText w (signed z)

@@ -4,7 +4,7 @@ use native.Mathlib.Omega.{arith}
 use borrow.Author.Needs.{needs}
 use lib.ListN.{length, drop}
 use Rattle.sbr_list.specs.Line.{withText}
-use Rattle.sbr_list.proofs.Lines.{appended-next, appended-done}
+use Rattle.sbr_list.proofs.Lines.{text-next, text-done}
 use Rattle.sbr_list.proofs.text.Line.bytes.Statement.{statement}
 use Rattle.sbr_list.proofs.text.Line.bytes.Tie as tie
 
@@ -31,10 +31,10 @@ loop-less c = omega arith
 
 loop-again : tie.Need-loop-again Inv-loop μ-loop
 loop-again c =
-    (omega arith, appended-next _ _ _ _ 0 _ (c .before .before .loop-test .taken) refl (c .byte .ensures) ∙ c .before .before .before .loop .inv .1)
+    (omega arith, text-next _ _ _ _ 0 _ (c .before .before .loop-test .taken) refl (c .byte .ensures) ∙ c .before .before .before .loop .inv .1)
 
 returns : tie.Need-returns Inv-loop μ-loop
-returns c = sym (appended-done _ _ _ (c .loop-test .left)) ∙ c .before .loop .inv .1
+returns c = sym (text-done _ _ _ (c .loop-test .left)) ∙ c .before .loop .inv .1
 
 pub bytes-spec : {M : Type 1} → statement M
 bytes-spec =
