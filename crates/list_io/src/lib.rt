@@ -6,7 +6,9 @@ use sbr_list::PAGE_SIZE;
 ghost use mathlib.Core.Path.{_≡_};
 ghost use Prim.Native.Nat.{_≤_, min};
 ghost use lib.ListN.{length};
-ghost use Rattle.sbr_list.specs.Enough.{mostInput};
+ghost use Rattle.io.specs.Counts.{Counts};
+ghost use Rattle.sbr_list.specs.Listing.{listing};
+ghost use Rattle.sbr_list.specs.Enough.{mostInput, isLetter, settled};
 
 // How many bytes are asked for: never more than a listing needs.
 fn asked(most: usize) -> usize
@@ -22,11 +24,66 @@ fn print_listing(input: &[u8]) {
     io::write_all(STDOUT_FILENO, &page[..len]);
 }
 
-// Fills the input, as far as there are bytes, and prints the listing of what was read, nothing else; answers how many bytes that are.
+// Whether a byte is the letter of a resolution.
+fn is_letter(byte: u8) -> bool
+    ensures { λ r. ⌜ r ≡ isLetter byte ⌝ }
+{
+    if byte == b'H' {
+        return true;
+    }
+    byte == b'L'
+}
+
+// Whether a text is empty or its last line ends in a letter.
+fn is_settled(text: &[u8]) -> bool
+    ensures { λ r. ⌜ r ≡ settled (now (text .entry)) ⌝ }
+{
+    let len = text.len();
+    if len <= 1 {
+        return true;
+    }
+    is_letter(text[len - 2])
+}
+
+// Whether every frame of an input is there: more input changes no listing of it then (SettledInput).
+fn is_whole(input: &[u8]) -> bool
+    ensures { λ r. ⌜ r ≡ settled (listing (now (input .entry))) ⌝ }
+{
+    let mut page = [0u8; PAGE_SIZE];
+    let len = sbr_list::list_grids(input, &mut page);
+    is_settled(&page[..len])
+}
+
+// Reads what is there, at least a byte where the input has not ended; answers how many bytes that are.
+fn read_some(buf: &mut [u8]) -> usize
+    ensures { λ r. ⌜ r ≤ length (now (buf .entry)) ⌝ }
+{
+    io::count(libc::read(STDIN_FILENO, buf), buf)
+}
+
+// Reads on until every frame is there, the input ends or the range is full; answers how many bytes are read.
+fn read_on(input: &mut [u8]) -> usize
+    ensures { λ r. ⌜ Counts r (now (input .exit)) ⌝ }
+{
+    let mut got = 0;
+    while got < input.len() {
+        if is_whole(&input[..got]) {
+            return got;
+        }
+        let more = read_some(&mut input[got..]);
+        if more == 0 {
+            return got;
+        }
+        got += more;
+    }
+    got
+}
+
+// Reads the input and prints the listing of what was read, nothing else; answers how many bytes that are.
 fn list_read(input: &mut [u8]) -> usize
     ensures { λ r. ⌜ r ≤ length (now (input .entry)) ⌝ }
 {
-    let got = io::read_full(STDIN_FILENO, input);
+    let got = read_on(input);
     print_listing(&input[..got]);
     got
 }

@@ -26,7 +26,7 @@ use Rattle.sbr_list.specs.Listing.{andThen, linesFrom, listing}
 use Rattle.sbr_list.specs.Enough.{mostInput, EnoughInput}
 
 -- bits behind those that are read move no position
-more-behind : (n : ℕ) (b : ℤ) (p : ℕ) (xs ys : List Bool) (o : Outcome (Grid × List Bool))
+pub more-behind : (n : ℕ) (b : ℤ) (p : ℕ) (xs ys : List Bool) (o : Outcome (Grid × List Bool))
     → parsed n b p (length (xs ++ ys)) (behind ys o) ≡ parsed n b p (length xs) o
 more-behind n b p xs ys (refused e) = refl
 more-behind n b p xs ys (answered r) =

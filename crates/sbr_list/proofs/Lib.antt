@@ -5,3 +5,4 @@ pub mod Bounds
 pub mod Pages
 pub mod Turns
 pub mod Enough
+pub mod Settled
