@@ -1,7 +1,8 @@
+-- Records of bytes.
 use mathlib.Core.Path.{_≡_}
 use mathlib.Core.Bool.{Bool, false, not}
 use mathlib.Core.List.{List, [], _∷_}
-use Prim.Native.Nat.{ℕ}
+use Prim.Native.Nat.{ℕ, _%_}
 use lib.Dec.{eqb}
 use lib.ListN.{getD}
 use Rattle.sbr_grid.specs.declared.FrameClass.{FrameClass}
@@ -10,7 +11,7 @@ use Rattle.sbr_grid.specs.Grid.{classOf}
 use Rattle.case_io.specs.Layout.{gridOf}
 
 -- a record of parts that were made of its bytes
-pub grid-whole : (bs : List ℕ) (c : FrameClass) (n q : ℕ) (f g h i j : Bool) (k m : ℕ) → c ≡ classOf (getD bs 0 0) → n ≡ getD bs 1 0 → q ≡ getD bs 2 0
+pub grid-whole : (bs : List ℕ) (c : FrameClass) (n q : ℕ) (f g h i j : Bool) (k m : ℕ) → c ≡ classOf (getD bs 0 0 % 4) → n ≡ getD bs 1 0 → q ≡ getD bs 2 0
     → f ≡ not (eqb (getD bs 3 0) 0) → g ≡ not (eqb (getD bs 4 0) 0) → h ≡ not (eqb (getD bs 5 0) 0) → i ≡ not (eqb (getD bs 6 0) 0)
     → j ≡ not (eqb (getD bs 7 0) 0) → k ≡ getD bs 10 0 → m ≡ getD bs 15 0
     → _≡_ {A = SbrGrid} (record {

@@ -1,7 +1,7 @@
 -- How a case holds numbers and records: tools/cases.py.
 use mathlib.Core.Bool.{Bool, false, not}
 use mathlib.Core.List.{List, [], _∷_}
-use Prim.Native.Nat.{ℕ, _+_, _*_}
+use Prim.Native.Nat.{ℕ, _+_, _*_, _%_}
 use lib.Dec.{eqb}
 use lib.ListN.{getD}
 use Rattle.sbr_grid.specs.declared.SbrGrid.{SbrGrid}
@@ -20,7 +20,7 @@ flagAt bs k = not (eqb (getD bs k 0) 0)
 -- class, counts of envelopes and noise floors, 5 resolutions, border bytes, each list's count and 4 lengths, pointer
 abbrev pub gridOf : List ℕ → SbrGrid
 gridOf bs = record {
-  «frame_class» = classOf (getD bs 0 0);
+  «frame_class» = classOf (getD bs 0 0 % 4);
   «num_env» = getD bs 1 0;
   «num_noise» = getD bs 2 0;
   «freq_res» = flagAt bs 3 ∷ flagAt bs 4 ∷ flagAt bs 5 ∷ flagAt bs 6 ∷ flagAt bs 7 ∷ [];

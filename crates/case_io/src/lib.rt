@@ -7,7 +7,7 @@ use sbr_grid::Refusal;
 use sbr_grid::SbrGrid;
 use sbr_grid::TimeGrid;
 ghost use mathlib.Core.Path.{_≡_};
-ghost use Prim.Native.Nat.{_≤_};
+ghost use Prim.Native.Nat.{_≤_, _%_};
 ghost use lib.Ieee.{ofBits, binary64};
 ghost use lib.IntN.{natAbs};
 ghost use lib.ListN.{length, replicate};
@@ -135,7 +135,7 @@ fn count(byte: u8) -> usize
 }
 
 fn class(byte: u8) -> FrameClass
-    ensures { λ r. ⌜ r ≡ classOf byte ⌝ }
+    ensures { λ r. ⌜ r ≡ classOf (byte % 4) ⌝ }
 {
     FrameClass::from_bits(byte as u32)
 }

@@ -11,11 +11,16 @@ use Rattle.sbr_encoder.proofs.Unread.{elections-unread}
 use Rattle.sbr_encoder.proofs.EveryElection.{every-election}
 use Rattle.sbr_run.proofs.Term3.{every-call, term3}
 use Rattle.sbr_sample.proofs.Sampled.{sampled}
+use Rattle.sbr_list.proofs.Enough.{enough-input}
+use Rattle.sbr_list.proofs.Settled.{settled-input}
+use Rattle.run_lines.proofs.Tells.{number-tells}
 
 pub claims : Claims
 claims = record {
   elections-unread = elections-unread;
   energies-unread = energies-unread;
+  enough-input = enough-input;
+  settled-input = settled-input;
   pointer-width = pointer-width;
   reads-back = reads-back;
   writes-back = writes-back;
@@ -28,4 +33,5 @@ claims = record {
   every-call = every-call;
   term3 = term3;
   sample = sampled;
+  number-tells = number-tells;
 }

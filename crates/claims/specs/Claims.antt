@@ -10,12 +10,17 @@ use Rattle.sbr_encoder.specs.Unread.{ElectionsUnread}
 use Rattle.sbr_encoder.specs.Electable.{EveryElection}
 use Rattle.sbr_run.specs.Term3.{Term3, EveryCall}
 use Rattle.sbr_sample.specs.Sample.{Sample}
+use Rattle.sbr_list.specs.Enough.{EnoughInput, SettledInput}
+use Rattle.run_lines.specs.Number.{NumberTells}
 
 pub record Claims : Type 1 where
   -- ---- term 1: every call answers or refuses as stated
   -- samples in columns 0 and 1, in bands outside the high table and past the columns that are needed affect no answer
   pub elections-unread : ElectionsUnread
   pub energies-unread : EnergiesUnread
+  -- bytes past the 832 that 255 frames need change no listing, nor does more input once every frame is there
+  pub enough-input : EnoughInput
+  pub settled-input : SettledInput
   -- ---- term 2: grids, bits and energies are those of the standard and of the Rust
   -- the width of bs_pointer is the least that tells the envelope count + 1 values apart
   pub pointer-width : PointerWidth
@@ -35,3 +40,5 @@ pub record Claims : Type 1 where
   pub term3 : Term3
   -- a run with its readings, computed and by the claim
   pub sample : Sample
+  -- ---- the replays: frames that differ have different numbers, so that a verdict on what is read can fail
+  pub number-tells : NumberTells

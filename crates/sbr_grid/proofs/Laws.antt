@@ -1,4 +1,4 @@
--- Laws of the classes and of the view of a record. The laws of `first`, in First.antt, are passed on under the names that crates above still cite.
+-- Laws of the classes and of the view of a record.
 use mathlib.Core.Path.{_≡_, refl}
 use mathlib.Core.Bool.{false}
 use Prim.Native.Nat.{ℕ, zero, suc, _≤_, _<_}
@@ -7,8 +7,8 @@ use lib.ListN.{length}
 use Rattle.sbr_grid.specs.declared.FrameClass.{FrameClass}
 use Rattle.sbr_grid.specs.declared.FrameClass.the-variants.{FixFix, FixVar, VarFix, VarVar}
 use Rattle.sbr_grid.specs.declared.SbrGrid.{SbrGrid}
+use Rattle.sbr_grid.proofs.First.{first-length, first-first}
 use Rattle.sbr_grid.specs.Grid.{classCode, classOf, Grid, numEnv, viewOf, recordOf}
-pub use Rattle.sbr_grid.proofs.First.{first-length as length-first, first-getD as getD-first, places, first-places as places-first, first-first}
 
 -- a class has a number below 4, which has that class
 pub class-of-code : (c : FrameClass) → classOf (classCode c) ≡ c
@@ -41,4 +41,4 @@ pub record Lengths (g : SbrGrid) : Type 0 where
   pub rel1 : length (viewOf g .relBord1) ≡ g .«num_rel_1»
 
 pub lengths : (g : SbrGrid) → Lengths g
-lengths g = record { env = length-first _ _ _; rel0 = length-first _ _ _; rel1 = length-first _ _ _ }
+lengths g = record { env = first-length _ _ _; rel0 = first-length _ _ _; rel1 = first-length _ _ _ }

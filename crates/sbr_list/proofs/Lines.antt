@@ -2,14 +2,15 @@
 use mathlib.Core.Path.{_≡_, refl, ap}
 use mathlib.Core.Bool.{Bool, false}
 use mathlib.Core.List.{List, [], _∷_, _++_, map, append-nil}
-use Prim.Native.Nat.{ℕ, zero, suc, _+_, _/_, _%_, _≤_, _<_}
+use Prim.Native.Nat.{ℕ, _+_, _/_, _%_, _≤_, _<_}
 use native.Mathlib.Omega.{arith}
 use native.Mathlib.Numerals.{add-one}
 use borrow.Author.Tests.{lt-ltb, le-ltb}
-use lib.ListN.{length, getD, drop, set, length-append, length-map, drop-of-length-le, List·getD-map}
+use lib.ListN.{length, getD, drop, length-append, length-map, drop-of-length-le, List·getD-map}
 use lib.Seq.{append-snoc, drop-cons}
+use Rattle.sbr_grid.proofs.First.{first-append}
 use Rattle.sbr_grid.specs.Grid.{first}
-use Rattle.sbr_grid.proofs.Laws.{length-first, getD-first}
+use Rattle.sbr_grid.proofs.First.{first-length, first-getD}
 use Rattle.sbr_list.specs.declared.text.Line.{Line}
 use Rattle.sbr_list.specs.Listing.{decimal, spaced, resolution}
 use Rattle.sbr_list.specs.Line.{lineOf, withByte, withText, Small}
@@ -29,15 +30,9 @@ text-append w (x ∷ a) b = text-append (withByte w x) a b
 pub then : (v w r : Line) (a b : List ℕ) → w ≡ withText v a → r ≡ withText w b → r ≡ withText v (a ++ b)
 then v w r a b e f = rw (f, e, text-append v a b)
 
--- the byte behind a text that is padded
-set-first : (n : ℕ) (t : List ℕ) (b : ℕ) → length t < n → set (first 0 n t) (length t) b ≡ first 0 n (t ++ (b ∷ []))
-set-first zero t b h = absurd (omega arith)
-set-first (suc n) [] b h = refl
-set-first (suc n) (x ∷ t) b h = ap {B = List ℕ} (λ l. x ∷ l) (set-first n t b (omega arith))
-
 line-byte : (t : List ℕ) (b : ℕ) → length t < 64 → withByte (lineOf t) b ≡ lineOf (t ++ (b ∷ []))
 unfolding lineOf
-line-byte t b h = rw (lt-ltb (length t) 64 h, set-first 64 t b h, length-append t (b ∷ []))
+line-byte t b h = rw (lt-ltb (length t) 64 h, first-append 0 64 (length t) t b refl h, length-append t (b ∷ []))
 
 -- a text behind that of a line that has room for both
 line-text : (s t : List ℕ) → length s + length t ≤ 64 → withText (lineOf s) t ≡ lineOf (s ++ t)
@@ -90,7 +85,7 @@ spaced-first (x ∷ t) h = spaced-behind x t
 
 -- the first n of a list: the number at j is small where all of them are
 pub small-at : (n j : ℕ) (t : List ℕ) → Small (first 0 n t) → j < n → getD t j 0 < 100
-small-at n j t s h = rw (getD-first 0 n j t h) at (s j)
+small-at n j t s h = rw (first-getD 0 n j t h) at (s j)
 
 -- one of the first n numbers more
 pub behind-next : (w s r : Line) (t : List ℕ) (n j : ℕ) → j < n → s ≡ withText w (32 ∷ []) → r ≡ withText s (decimal (getD t j 0))
@@ -103,8 +98,8 @@ behind-next w s r t n j h e f =
       text-append (withText w (32 ∷ [])) (decimal (getD t j 0)) (behind (drop (j + 1) (first 0 n t))),
       text-append w (32 ∷ []) (decimal (getD t j 0) ++ behind (drop (j + 1) (first 0 n t))),
       add-one,
-      drop-cons (first 0 n t) j 0 (omega (arith, length-first 0 n t)),
-      getD-first 0 n j t h,
+      drop-cons (first 0 n t) j 0 (omega (arith, first-length 0 n t)),
+      first-getD 0 n j t h,
     )
 
 -- all of the first n numbers are there
@@ -112,10 +107,10 @@ pub spaced-done : (w s r : Line) (t : List ℕ) (n j : ℕ) → 0 < n → s ≡ 
     → withText r (behind (drop j (first 0 n t))) ≡ withText s (behind (drop 1 (first 0 n t))) → n ≤ j → r ≡ withText w (spaced (first 0 n t))
 unfolding withText behind
 spaced-done w s r t n j h e f l =
-    let c = length-first 0 n t in
+    let c = first-length 0 n t in
     rw (
       spaced-first (first 0 n t) (omega arith),
-      getD-first 0 n 0 t h,
+      first-getD 0 n 0 t h,
       ← (text-append w (decimal (getD t 0 0)) (behind (drop 1 (first 0 n t)))),
       ← e,
       ← f,
@@ -127,10 +122,10 @@ pub letter-next : (w r : Line) (t : List Bool) (n j x : ℕ) → j < n → x ≡
     → withText r (drop (j + 1) (map resolution (first false n t))) ≡ withText w (drop j (map resolution (first false n t)))
 letter-next w r t n j x h e f =
     let l = first false n t in
-    text-next w r (map resolution l) j 76 x (omega (arith, length-map l resolution, length-first false n t))
-    (rw (List·getD-map resolution l j false, getD-first false n j t h) e) f
+    text-next w r (map resolution l) j 76 x (omega (arith, length-map l resolution, first-length false n t))
+    (rw (List·getD-map resolution l j false, first-getD false n j t h) e) f
 
 pub letters-done : (w : Line) (t : List Bool) (n j : ℕ) → n ≤ j → withText w (drop j (map resolution (first false n t))) ≡ w
 letters-done w t n j h =
     let l = first false n t in
-    text-done w (map resolution l) j (omega (arith, length-map l resolution, length-first false n t))
+    text-done w (map resolution l) j (omega (arith, length-map l resolution, first-length false n t))

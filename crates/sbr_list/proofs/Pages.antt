@@ -5,10 +5,10 @@ use Prim.Native.Nat.{ℕ, suc, _+_, _≤_, _<_}
 use native.Mathlib.Nat.{add-zero, suc-add, add-suc, zero-add}
 use native.Mathlib.Omega.{arith}
 use native.Mathlib.Numerals.{add-one}
-use lib.ListN.{length, getD, set, drop, length-append, drop-of-length-le}
-use lib.Seq.{sets, sets-eq, drop-cons}
+use lib.ListN.{length, getD, set, drop, length-append}
+use lib.Seq.{sets, sets-eq}
 use Rattle.sbr_grid.specs.Grid.{first}
-use Rattle.sbr_grid.proofs.Laws.{length-first, getD-first, first-first}
+use Rattle.sbr_grid.proofs.First.{first-first, first-drop, first-drop-past}
 use Rattle.sbr_list.specs.Line.{lineOf, textOf}
 use Rattle.sbr_list.specs.Listing.{listing, over}
 
@@ -24,10 +24,10 @@ sets-over l t h = rw (sets-eq t l 0 (omega arith), zero-add)
 -- one more of the first n bytes, and their end
 pub sets-next : (l t : List ℕ) (n at j : ℕ) → j < n
     → sets (set l (at + j) (getD t j 0)) (at + (j + 1)) (drop (j + 1) (first 0 n t)) ≡ sets l (at + j) (drop j (first 0 n t))
-sets-next l t n at j h = rw (add-one, drop-cons (first 0 n t) j 0 (omega (arith, length-first 0 n t)), add-suc, getD-first 0 n j t h)
+sets-next l t n at j h = rw (first-drop 0 n j t h, add-one, add-suc)
 
 pub sets-done : (l t : List ℕ) (n i j : ℕ) → n ≤ j → sets l i (drop j (first 0 n t)) ≡ l
-sets-done l t n i j h = rw (drop-of-length-le (first 0 n t) {i = j} (omega (arith, length-first 0 n t)))
+sets-done l t n i j h = rw (first-drop-past 0 n j t h)
 
 -- the text of the line of a text
 pub text-line : (t : List ℕ) → length t ≤ 64 → textOf (lineOf t) ≡ t

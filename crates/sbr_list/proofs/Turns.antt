@@ -12,7 +12,8 @@ use Rattle.sbr_grid.specs.declared.Refusal.{Refusal}
 use Rattle.sbr_grid.specs.declared.Refusal.the-variants.{BitsEnd}
 use Rattle.sbr_grid.specs.Refusals.{Outcome, answered, refused, answerOf}
 use Rattle.sbr_grid.specs.Grid.{first, recordOf}
-use Rattle.sbr_grid.proofs.Laws.{view-record, first-first}
+use Rattle.sbr_grid.proofs.Laws.{view-record}
+use Rattle.sbr_grid.proofs.First.{first-first}
 use Rattle.sbr_grid.specs.Times.{timeRecord}
 use Rattle.sbr_reader.specs.declared.FrameRead.{FrameRead}
 use Rattle.sbr_reader.specs.declared.Carried.{Carried}

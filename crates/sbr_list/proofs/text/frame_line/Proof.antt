@@ -1,7 +1,7 @@
 use mathlib.Core.Bool.{false}
 use native.Mathlib.Omega.{arith}
 use borrow.Author.Needs.{needs}
-use Rattle.sbr_grid.proofs.Laws.{length-first}
+use Rattle.sbr_grid.proofs.First.{first-length}
 use Rattle.sbr_list.proofs.Lines.{then}
 use Rattle.sbr_list.proofs.Whole.{frame-whole}
 use Rattle.sbr_list.proofs.text.frame_line.Statement.{statement}
@@ -35,7 +35,7 @@ flags-requires : tie.Need-flags-requires
 flags-requires c κs =
     let s = c .before .before .before .before .before .before .before .before in
     let g = s .args .grid in
-    omega (arith, s .pre .flags, length-first false (g .«num_env») (g .«freq_res»))
+    omega (arith, s .pre .flags, first-length false (g .«num_env») (g .«freq_res»))
 
 byte-requires-3 : tie.Need-byte-requires-3
 byte-requires-3 c κs = search needs

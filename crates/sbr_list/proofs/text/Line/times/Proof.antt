@@ -2,7 +2,7 @@ use Prim.Native.Nat.{_+_}
 use native.Mathlib.Omega.{arith}
 use borrow.Author.Needs.{needs}
 use lib.ListN.{length-map}
-use Rattle.sbr_grid.proofs.Laws.{length-first}
+use Rattle.sbr_grid.proofs.First.{first-length}
 use Rattle.sbr_list.specs.Line.{timesOf}
 use Rattle.sbr_list.proofs.Lines.{then}
 use Rattle.sbr_list.proofs.Signs.{small-bits, times-whole}
@@ -16,7 +16,7 @@ borders-requires : tie.Need-borders-requires
 borders-requires c κs =
     let s = c .before .before in
     let t = s .args .time in
-    (omega (arith, s .pre .borders, length-first 0 (t .«num_env» + 1) (t .«t_e»), length-map (t .«t_e») (λ v. v)), s .pre .small)
+    (omega (arith, s .pre .borders, first-length 0 (t .«num_env» + 1) (t .«t_e»), length-map (t .«t_e») (λ v. v)), s .pre .small)
 
 slice-aggregate-bytes : tie.Need-slice-aggregate-bytes
 slice-aggregate-bytes c = search needs
@@ -31,7 +31,7 @@ borders-requires-2 : tie.Need-borders-requires-2
 borders-requires-2 c κs =
     let s = c .before .before .before .before .before .before .before in
     let t = s .args .time in
-    (omega (arith, s .pre .noise, length-first 0 (t .«num_noise» + 1) (t .«t_q»), length-map (t .«t_q») (λ v. v)), s .pre .smallNoise)
+    (omega (arith, s .pre .noise, first-length 0 (t .«num_noise» + 1) (t .«t_q»), length-map (t .«t_q») (λ v. v)), s .pre .smallNoise)
 
 slice-aggregate-bytes-2 : tie.Need-slice-aggregate-bytes-2
 slice-aggregate-bytes-2 c = search needs
