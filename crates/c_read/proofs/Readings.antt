@@ -10,7 +10,7 @@ use lib.ListN.{length}
 use Rattle.sbr_grid.specs.Refusals.{answered, answerOf}
 use Rattle.sbr_grid.specs.Grid.{Grid, recordOf}
 use Rattle.sbr_writer.specs.Write.{writable}
-use Rattle.sbr_writer.proofs.Facts.{both, fields-told}
+use Rattle.sbr_writer.proofs.Writable.{both, fields-told}
 use Rattle.sbr_reader.specs.declared.FrameRead.{FrameRead}
 use Rattle.sbr_reader.specs.declared.Carried.{Carried}
 use Rattle.sbr_reader.specs.Read.{Accepted, readGrid, frameReadOf}

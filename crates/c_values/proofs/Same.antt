@@ -13,7 +13,7 @@ use Rattle.sbr_grid.specs.Times.{slotCount}
 use Rattle.sbr_time_grid.specs.TimeGrid.{countsFit, timeGrid}
 use Rattle.sbr_time_grid.proofs.Laws.{counts}
 use Rattle.sbr_writer.specs.Write.{fieldsFit, writeGrid}
-use Rattle.sbr_writer.proofs.Facts.{fields-told}
+use Rattle.sbr_writer.proofs.Writable.{fields-told}
 
 -- the lists of a grid are within a record
 pub record Within (g : Grid) : Type 0 where

@@ -17,7 +17,7 @@ use Rattle.sbr_grid.proofs.Laws.{view-record}
 use Rattle.sbr_grid.specs.Times.{Times, slotCount}
 use Rattle.sbr_time_grid.specs.TimeGrid.{timeGrid}
 use Rattle.sbr_writer.specs.Write.{fieldsFit, classFits}
-use Rattle.sbr_writer.proofs.Facts.{both, fields-told}
+use Rattle.sbr_writer.proofs.Writable.{both, fields-told}
 use Rattle.sbr_qmf.specs.Qmf.{SampleAt}
 use Rattle.sbr_energy.specs.Energy.{slotEnergy, slotEnergies}
 use Rattle.sbr_bands.specs.Tables.{entry, lastEntry}

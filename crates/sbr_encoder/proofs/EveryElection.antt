@@ -15,7 +15,7 @@ use Rattle.sbr_grid.proofs.Outcomes.{unless-answered}
 use Rattle.sbr_time_grid.proofs.Ends.{time-ends}
 use Rattle.sbr_qmf.specs.Qmf.{SampleAt, columns, samplesNeeded}
 use Rattle.sbr_energy.specs.Energy.{slotEnergy}
-use Rattle.sbr_writer.proofs.Facts.{writable-view}
+use Rattle.sbr_writer.proofs.Writable.{writable-view}
 use Rattle.sbr_parse.proofs.Inverse.{reads-back}
 use Rattle.sbr_build.specs.Cases.{Case}
 use Rattle.sbr_choice.specs.Choice.{chosenGrid}

@@ -24,7 +24,7 @@ use Rattle.sbr_grid.proofs.Slots.{slots-few}
 use Rattle.sbr_time_grid.proofs.Ends.{time-passes, time-ends}
 use Rattle.sbr_parse.specs.Syntax.{sbrGrid}
 use Rattle.sbr_reader.specs.Read.{Accepted, isBorder, meets, timed, parsed, readGrid}
-use Rattle.sbr_writer.proofs.Facts.{fields-told}
+use Rattle.sbr_writer.proofs.Writable.{fields-told}
 use Rattle.sbr_reader.proofs.Frames.{frame-writes}
 use Rattle.sbr_list.specs.Line.{Small, ShortTimes, Short}
 

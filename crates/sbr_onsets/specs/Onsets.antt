@@ -67,7 +67,7 @@ halvesAlike e n =
     let ratio = Ieee.div binary64 first second in
     Ieee.le half ratio && Ieee.le ratio two64
 
--- the peak is taken over 8 slots more
+-- the onsets of a frame; the peak is taken over 8 slots more
 abbrev pub onsetsOf : (ℕ → Float) → ℕ → List ℕ
 onsetsOf e n = detectOnsets (isAttack e (peakOf e (n + 8))) n
 
@@ -76,6 +76,6 @@ abbrev pub clamped : ℤ → ℕ
 clamped (pos k) = min k 3
 clamped (negsuc k) = 0
 
--- the previous border less the slot count, clamped to 0 to 3
+-- the lead of a frame: the previous border less the slot count, clamped to 0 to 3
 abbrev pub leadOf : ℕ → ℤ → ℕ
 leadOf n previous = clamped (previous -ℤ pos n)

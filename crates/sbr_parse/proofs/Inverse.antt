@@ -17,7 +17,7 @@ use Rattle.sbr_grid.proofs.Widths.{pointer-width}
 use Rattle.sbr_grid.proofs.Laws.{class-of-code, code-lt}
 use Rattle.sbr_writer.specs.Syntax.{twos, envCode, bodyBits, gridBits}
 use Rattle.sbr_writer.specs.Write.{every, small, allAre, classFits, fieldsFit, writable}
-use Rattle.sbr_writer.proofs.Facts.{both, fields-told, fields-fit}
+use Rattle.sbr_writer.proofs.Writable.{both, fields-told, fields-fit}
 use Rattle.sbr_parse.specs.Syntax.{received, ordered, behindCounts, fixFix, fixVar, varFix, varVar, sbrGrid}
 use Rattle.sbr_parse.specs.Inverse.{cleared, ReadsBack, WritesBack}
 use Rattle.sbr_parse.proofs.Monad.{Back, Reads, Seen, back-then, back-map, back-flags, back-field, back-counted, back-lengths, seen-then, seen-map, seen-flags, seen-field, seen-counted, seen-lengths}

@@ -16,7 +16,7 @@ use Rattle.sbr_grid.specs.declared.Refusal.the-variants.{BitsEnd, EnvelopeCount
 use Rattle.sbr_grid.specs.Refusals.{Outcome, answered, refused}
 use Rattle.sbr_writer.specs.Syntax.{twos}
 use Rattle.sbr_writer.specs.Write.{every, small}
-use Rattle.sbr_writer.proofs.Facts.{both}
+use Rattle.sbr_writer.proofs.Writable.{both}
 use Rattle.sbr_parse.specs.Syntax.{Reader, onward, _followedBy_, giving, flags, field, relBords, checkedCount}
 
 -- m reads a from the bits u, whatever follows

@@ -16,6 +16,11 @@ ghost use Rattle.sbr_grid.specs.Grid.{byClass, noiseOf, first};
 ghost use Rattle.sbr_parse.specs.Syntax.{ordered, behindCounts, sbrGrid, fixFix, fixVar, varFix, varVar};
 ghost use Rattle.sbr_parse.specs.Parse.{Bits, parsedOf, windowBits, Paired, twosOf};
 
+// The bits of a full list of relative lengths, and of the resolutions of the most envelopes.
+const REL_BITS: u32 = 2 * SbrGrid::MAX_REL_BORD as u32;
+
+const RES_BITS: u32 = SbrGrid::MAX_NUM_ENV as u32;
+
 // A record, with the number of bits that are left.
 pub struct Parsed {
     pub answer: Answer,
@@ -92,7 +97,7 @@ fn rel_bords(v: u32, k: u32, count: usize) -> [u8; SbrGrid::MAX_REL_BORD]
     requires { ⌜ (k < 32) × (count ≤ 4) ⌝ }
     ensures { λ r. ⌜ r ≡ first 0 4 (twosOf count (v / 2 ^ k)) ⌝ }
 {
-    let rel = padded_bits(v, k, 2 * count as u32, 8);
+    let rel = padded_bits(v, k, 2 * count as u32, REL_BITS);
     [
         two_bits(rel, 6),
         two_bits(rel, 4),
@@ -136,7 +141,7 @@ fn resolutions(class: FrameClass, v: u32, k: u32, count: usize) -> [bool; SbrGri
     if last_first(class) {
         upward(some_bits(v, k, n))
     } else {
-        downward(padded_bits(v, k, n, 5))
+        downward(padded_bits(v, k, n, RES_BITS))
     }
 }
 

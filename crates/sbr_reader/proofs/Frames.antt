@@ -21,7 +21,7 @@ use Rattle.sbr_writer.specs.Syntax.{gridBits}
 use Rattle.sbr_parse.specs.Syntax.{sbrGrid}
 use Rattle.sbr_reader.specs.Read.{Accepted, isBorder, meets, timed, parsed, readGrid}
 use Rattle.sbr_reader.specs.Inverse.{Rewritten, FrameWrites}
-use Rattle.sbr_writer.proofs.Facts.{both, writable-view}
+use Rattle.sbr_writer.proofs.Writable.{both, writable-view}
 use Rattle.sbr_parse.proofs.Inverse.{Sent, sent, writes-back}
 
 -- a middle border inside the frame is that of a pointer of at most the envelope count

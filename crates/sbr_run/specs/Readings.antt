@@ -9,7 +9,7 @@ use Rattle.sbr_grid.specs.Refusals.{Outcome, answered, refused}
 use Rattle.sbr_reader.specs.Read.{Accepted, readGrid}
 use Rattle.sbr_run.specs.Run.{Sent}
 
--- what a reading hands in
+-- a reading: what it hands in
 pub record Reading : Type 0 where
   pub bytes : List ℕ
   pub position : ℕ

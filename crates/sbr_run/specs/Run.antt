@@ -19,7 +19,7 @@ use Rattle.sbr_encoder.specs.Election.{Elected, elect}
 
 -- ---- a turn
 
--- what a turn's choosing call comes to, and what is handed in to the time grid of that record and to its writing
+-- a turn: what its choosing call comes to, and what is handed in to the time grid of that record and to its writing
 pub record Turn : Type 0 where
   pub chosen : Outcome Elected
   pub timeSlots : ℕ

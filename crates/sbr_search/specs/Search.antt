@@ -11,7 +11,7 @@ use Rattle.sbr_borders.specs.Borders.{places, prices, nextShifts, risesFrom, la
 
 -- ---- the search
 
--- the shifts, the slots that the end lies past the slot count, how many borders are reached by leading lengths
+-- a plan: the shifts, the slots that the end lies past the slot count, how many borders are reached by leading lengths
 pub record Plan : Type 0 where
   pub shifts : List ℕ
   pub over : ℕ

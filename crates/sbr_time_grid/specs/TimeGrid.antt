@@ -68,7 +68,7 @@ unfoldable pub rises : (ℕ → ℕ) → ℕ → Bool
 rises f zero = true
 rises f (suc k) = rises f k && ltb (f k) (f (suc k))
 
--- Table 4.174
+-- Table 4.174: the envelope border at which the two noise floors meet
 unfoldable pub middleBorder : Grid → ℕ
 middleBorder g =
     let l = numEnv g in
@@ -76,7 +76,7 @@ middleBorder g =
     byClass (g .frameClass) (l / 2) (byPointer p (l - 1) (l - 1) (l + 1 - p)) (byPointer p 1 (l - 1) (p - 1))
     (byPointer p (l - 1) (l - 1) (l + 1 - p))
 
--- Table 4.176
+-- Table 4.176: the mark, the envelope at which an attack begins; -1 for none
 unfoldable pub lA : Grid → ℤ
 lA g =
     let none = negsuc 0 in

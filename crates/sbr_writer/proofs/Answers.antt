@@ -21,7 +21,7 @@ use Rattle.sbr_writer.specs.Write.{Wrote, writable, writeGrid, writtenOf
 use Rattle.sbr_writer.specs.Code.{windowFor}
 use Rattle.sbr_writer.specs.declared.Written.{Written}
 use Rattle.sbr_writer.specs.declared.Written.the-variants.{To, Refused}
-use Rattle.sbr_writer.proofs.Facts.{length-grid}
+use Rattle.sbr_writer.proofs.Writable.{length-grid}
 
 -- what the call has to show of its answer r and of the bytes m that it leaves
 abbrev pub Writes : List ℕ → ℕ → Grid → Written → List ℕ → Type 0

@@ -1,3 +1,3 @@
 pub mod Gather
-pub mod Facts
+pub mod Writable
 pub mod Answers

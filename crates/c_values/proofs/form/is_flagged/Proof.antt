@@ -7,7 +7,7 @@ use lib.Dec.{leb}
 use lib.ListN.{drop}
 use Rattle.sbr_grid.specs.Grid.{first}
 use Rattle.sbr_writer.specs.Write.{every}
-use Rattle.sbr_writer.proofs.Facts.{every-next, every-fails, every-done}
+use Rattle.sbr_writer.proofs.Writable.{every-next, every-fails, every-done}
 use Rattle.c_values.specs.Handed.{flagged}
 use Rattle.c_values.proofs.form.is_flagged.Statement.{statement}
 use Rattle.c_values.proofs.form.is_flagged.Tie as tie

@@ -4,7 +4,7 @@ use mathlib.Core.Bool.{true}
 use Rattle.sbr_grid.specs.Grid.{viewOf}
 use Rattle.sbr_writer.specs.Write.{fieldsFit, classFits}
 use Rattle.sbr_writer.specs.Code.{Space}
-use Rattle.sbr_writer.proofs.Facts.{both, told}
+use Rattle.sbr_writer.proofs.Writable.{both, told}
 use Rattle.sbr_writer.proofs.Gather.{narrow, space-field, whole}
 use Rattle.sbr_grid.proofs.Laws.{code-lt}
 use native.Mathlib.Omega.{arith}

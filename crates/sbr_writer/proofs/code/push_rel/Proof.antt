@@ -10,7 +10,7 @@ use Rattle.sbr_grid.specs.Grid.{first}
 use Rattle.sbr_writer.specs.Syntax.{twos}
 use Rattle.sbr_writer.specs.Code.{appended, Space}
 use Rattle.sbr_writer.proofs.Gather.{space-after, rel-next, appended-none}
-use Rattle.sbr_writer.proofs.Facts.{small-at}
+use Rattle.sbr_writer.proofs.Writable.{small-at}
 use borrow.Author.Needs.{needs}
 use native.Mathlib.Omega.{arith}
 use Rattle.sbr_writer.proofs.code.push_rel.Statement.{statement}

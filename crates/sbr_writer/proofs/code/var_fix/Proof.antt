@@ -6,7 +6,7 @@ use lib.ListN.{length}
 use Rattle.sbr_grid.specs.Grid.{first}
 use Rattle.sbr_grid.proofs.First.{first-length}
 use Rattle.sbr_writer.specs.Syntax.{bodyBits}
-use Rattle.sbr_writer.proofs.Facts.{Told, told, one-told, var-fix-view}
+use Rattle.sbr_writer.proofs.Writable.{Told, told, one-told, var-fix-view}
 use Rattle.sbr_writer.proofs.Gather.{chain, narrow, space-then, length-side, side-flags}
 use native.Mathlib.Omega.{arith}
 use Rattle.sbr_writer.proofs.code.var_fix.Statement.{statement}

@@ -10,7 +10,7 @@ use Rattle.sbr_grid.proofs.First.{first-length}
 use Rattle.sbr_grid.proofs.Widths.{width-ptr}
 use Rattle.sbr_writer.specs.Syntax.{bodyBits}
 use Rattle.sbr_writer.specs.Code.{Space}
-use Rattle.sbr_writer.proofs.Facts.{Told, told, two-told, var-var-view}
+use Rattle.sbr_writer.proofs.Writable.{Told, told, two-told, var-var-view}
 use Rattle.sbr_writer.proofs.Gather.{chain, narrow, space-then, space-field, length-twos, pointer-fits, pointer-narrow, var-var-bits}
 use native.Mathlib.Omega.{arith}
 use borrow.Author.Needs.{needs}

@@ -2,7 +2,7 @@
 use mathlib.Core.Path.{sym, ap, _∙_}
 use Rattle.sbr_grid.specs.Grid.{viewOf}
 use Rattle.sbr_writer.specs.Write.{classFits}
-use Rattle.sbr_writer.proofs.Facts.{fix-var-view, var-fix-view, var-var-view}
+use Rattle.sbr_writer.proofs.Writable.{fix-var-view, var-fix-view, var-var-view}
 use borrow.Author.Needs.{needs}
 use Rattle.sbr_writer.proofs.fits.class_fits.Statement.{statement}
 use Rattle.sbr_writer.proofs.fits.class_fits.Tie as tie

@@ -1,7 +1,7 @@
 -- `sbr_writer::fits::fields_fit` meets its contract.
 use mathlib.Core.Path.{sym, _∙_}
 use borrow.Author.Tests.{lt-leb, not-true, not-false}
-use Rattle.sbr_writer.proofs.Facts.{and-false, fields-view, Numbers, fields-pass}
+use Rattle.sbr_writer.proofs.Writable.{and-false, fields-view, Numbers, fields-pass}
 use native.Mathlib.Omega.{arith}
 use borrow.Author.Needs.{needs}
 use Rattle.sbr_writer.proofs.fits.fields_fit.Statement.{statement}

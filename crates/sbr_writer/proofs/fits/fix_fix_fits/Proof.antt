@@ -1,5 +1,5 @@
 -- `sbr_writer::fits::fix_fix_fits` meets its contract.
-use Rattle.sbr_writer.proofs.Facts.{first-flag, fix-fix-view}
+use Rattle.sbr_writer.proofs.Writable.{first-flag, fix-fix-view}
 use borrow.Author.Tests.{not-true, not-false}
 use mathlib.Core.Path.{sym, _∙_}
 use borrow.Author.Needs.{needs}

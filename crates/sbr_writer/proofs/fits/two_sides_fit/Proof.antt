@@ -1,6 +1,6 @@
 -- `sbr_writer::fits::two_sides_fit` meets its contract.
 use borrow.Author.Tests.{eq-eqb, ne-eqb, le-leb, lt-leb}
-use Rattle.sbr_writer.proofs.Facts.{and-false}
+use Rattle.sbr_writer.proofs.Writable.{and-false}
 use borrow.Author.Needs.{needs}
 use Rattle.sbr_writer.proofs.fits.two_sides_fit.Statement.{statement}
 use Rattle.sbr_writer.proofs.fits.two_sides_fit.Tie as tie

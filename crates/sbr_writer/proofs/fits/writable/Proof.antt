@@ -1,7 +1,7 @@
 -- `sbr_writer::fits::writable` meets its contract.
 use mathlib.Core.Path.{sym, _∙_}
 use borrow.Author.Tests.{not-true, not-false}
-use Rattle.sbr_writer.proofs.Facts.{told}
+use Rattle.sbr_writer.proofs.Writable.{told}
 use borrow.Author.Needs.{needs}
 use Rattle.sbr_writer.proofs.fits.writable.Statement.{statement}
 use Rattle.sbr_writer.proofs.fits.writable.Tie as tie
