@@ -7,7 +7,7 @@ ghost use mathlib.Core.Path.{_≡_};
 ghost use mathlib.Core.Bool.{true, false};
 ghost use Prim.Native.Nat.{ℕ, _+_, _-_, _≤_, _<_};
 ghost use lib.ListN.{length, getD};
-ghost use Rattle.sbr_grid.specs.Refusals.{answered};
+ghost use Rattle.sbr_grid.specs.Refusals.{answered, Leaves};
 ghost use Rattle.sbr_grid.specs.Grid.{first, viewOf};
 ghost use Rattle.sbr_grid.specs.Times.{slotCount};
 ghost use Rattle.sbr_time_grid.specs.TimeGrid.{timeGrid};
@@ -77,8 +77,10 @@ fn fit_rows(
     out: &mut [f64],
 ) -> Estimated
     requires { ⌜ («num_env» ≤ 5) × ((l : ℕ) → l < «num_env» → getD t l 0 ≤ getD t (l + 1) 0) × Ready (now high) (now low) (now x) (getD t «num_env» 0) ⌝ }
-    ensures { λ r. ⌜ r ≡ estimatedOf (fitted (length (now (out .entry))) (rows (columns (now (x .entry))) (now (high .entry)) (now (low .entry)) (first false «num_env» «freq_res») (spans (first 0 («num_env» + 1) t)))) ⌝ }
-    ensures { λ r. ⌜ now (out .exit) ≡ numbersAfter (now (out .entry)) (fitted (length (now (out .entry))) (rows (columns (now (x .entry))) (now (high .entry)) (now (low .entry)) (first false «num_env» «freq_res») (spans (first 0 («num_env» + 1) t)))) ⌝ }
+    ensures { λ r. ⌜ Leaves
+        (fitted (length (now (out .entry))) (rows (columns (now (x .entry))) (now (high .entry)) (now (low .entry)) (first false «num_env» «freq_res») (spans (first 0 («num_env» + 1) t))))
+        estimatedOf r
+        (numbersAfter (now (out .entry))) (now (out .exit)) ⌝ }
 {
     let count = rows_length(freq_res, num_env, high.len() - 1, low.len() - 1);
     if out.len() < count {
@@ -98,8 +100,10 @@ fn timed_rows(
     out: &mut [f64],
 ) -> Estimated
     requires { ⌜ (slotCount «num_time_slots» ≡ true) × (tablesFit (now high) (now low) ≡ true) × (samplesNeeded «num_time_slots» ≤ length (now x)) ⌝ }
-    ensures { λ r. ⌜ r ≡ estimatedOf (rowsOf (columns (now (x .entry))) (now (high .entry)) (now (low .entry)) (viewOf grid) (length (now (out .entry))) (timeGrid «num_time_slots» (viewOf grid))) ⌝ }
-    ensures { λ r. ⌜ now (out .exit) ≡ numbersAfter (now (out .entry)) (rowsOf (columns (now (x .entry))) (now (high .entry)) (now (low .entry)) (viewOf grid) (length (now (out .entry))) (timeGrid «num_time_slots» (viewOf grid))) ⌝ }
+    ensures { λ r. ⌜ Leaves
+        (rowsOf (columns (now (x .entry))) (now (high .entry)) (now (low .entry)) (viewOf grid) (length (now (out .entry))) (timeGrid «num_time_slots» (viewOf grid)))
+        estimatedOf r
+        (numbersAfter (now (out .entry))) (now (out .exit)) ⌝ }
 {
     let derived = sbr_time_grid::derive_time_grid(grid, num_time_slots);
     let answer = derived.answer;
@@ -121,8 +125,10 @@ pub fn estimate_envelopes(
     num_time_slots: usize,
     out: &mut [f64],
 ) -> Estimated
-    ensures { λ r. ⌜ r ≡ estimatedOf (energies «num_time_slots» (now (high .entry)) (now (low .entry)) (now (x .entry)) (viewOf grid) (length (now (out .entry)))) ⌝ }
-    ensures { λ r. ⌜ now (out .exit) ≡ numbersAfter (now (out .entry)) (energies «num_time_slots» (now (high .entry)) (now (low .entry)) (now (x .entry)) (viewOf grid) (length (now (out .entry)))) ⌝ }
+    ensures { λ r. ⌜ Leaves
+        (energies «num_time_slots» (now (high .entry)) (now (low .entry)) (now (x .entry)) (viewOf grid) (length (now (out .entry))))
+        estimatedOf r
+        (numbersAfter (now (out .entry))) (now (out .exit)) ⌝ }
 {
     if !sbr_grid::is_slot_count(num_time_slots) {
         return Estimated::Refused(Refusal::SlotCount);

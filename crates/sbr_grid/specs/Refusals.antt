@@ -1,4 +1,5 @@
 -- Refusals and their numbers: docs/ORDER.md, RF.
+use mathlib.Core.Path.{_≡_}
 use mathlib.Core.Bool.{Bool, cond}
 use Prim.Native.Nat.{ℕ}
 use Rattle.sbr_grid.specs.declared.Refusal.{Refusal}
@@ -35,3 +36,7 @@ answerOf (refused e) = Refused e
 abbrev pub valueOr : {A B : Type 0} → (A → B) → B → Outcome A → B
 valueOr f d (answered a) = f a
 valueOr f d (refused e) = d
+
+-- a call that comes to o: what it hands out is r, and what it leaves of something lent is m
+abbrev pub Leaves : {A B C : Type 0} → Outcome A → (Outcome A → B) → B → (Outcome A → C) → C → Type 0
+Leaves o out r left m = (r ≡ out o) × (m ≡ left o)

@@ -10,7 +10,7 @@ ghost use Prim.Native.Nat.{_≤_};
 ghost use lib.IntN.{pos};
 ghost use lib.ListN.{getD};
 ghost use Rattle.sbr_grid.specs.declared.Answer.the-variants.{Given};
-ghost use Rattle.sbr_grid.specs.Refusals.{refused};
+ghost use Rattle.sbr_grid.specs.Refusals.{refused, Leaves};
 ghost use Rattle.sbr_run.specs.Run.{turn};
 ghost use Rattle.sbr_run.specs.Readings.{reading};
 ghost use Rattle.sbr_run.specs.Place.{turnFrom, sendingOf, bytesLeft, readingFrom, receivingOf};
@@ -89,8 +89,10 @@ pub fn send_frame(
     bytes: &mut [u8],
     place: Place,
 ) -> Sending
-    ensures { λ r. ⌜ r ≡ sendingOf place (turn (turnFrom «num_time_slots» (now (high .entry)) (now (low .entry)) (now (x .entry)) «variable_borders» (now (bytes .entry)) place)) ⌝ }
-    ensures { λ r. ⌜ now (bytes .exit) ≡ bytesLeft (now (bytes .entry)) (turn (turnFrom «num_time_slots» (now (high .entry)) (now (low .entry)) (now (x .entry)) «variable_borders» (now (bytes .entry)) place)) ⌝ }
+    ensures { λ r. ⌜ Leaves
+        (turn (turnFrom «num_time_slots» (now (high .entry)) (now (low .entry)) (now (x .entry)) «variable_borders» (now (bytes .entry)) place))
+        (sendingOf place) r
+        (bytesLeft (now (bytes .entry))) (now (bytes .exit)) ⌝ }
 {
     let carried = place.carried;
     let elected = sbr_encoder::elect_grid(

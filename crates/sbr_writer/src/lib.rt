@@ -2,7 +2,7 @@
 use bits::Placed;
 use sbr_grid::Refusal;
 use sbr_grid::SbrGrid;
-ghost use mathlib.Core.Path.{_≡_};
+ghost use Rattle.sbr_grid.specs.Refusals.{Leaves};
 ghost use Rattle.sbr_grid.specs.Grid.{viewOf};
 ghost use Rattle.sbr_writer.specs.Write.{writeGrid, writtenOf, bytesAfter};
 
@@ -18,8 +18,10 @@ pub enum Written {
 
 // A record's sbr_grid() is written at a bit position; every other bit is kept, and a refused call keeps them all.
 pub fn write_grid(buf: &mut [u8], pos: usize, grid: SbrGrid) -> Written
-    ensures answer { λ r. ⌜ r ≡ writtenOf (writeGrid (now (buf .entry)) pos (viewOf grid)) ⌝ }
-    ensures bytes { λ _. ⌜ now (buf .exit) ≡ bytesAfter (now (buf .entry)) (writeGrid (now (buf .entry)) pos (viewOf grid)) ⌝ }
+    ensures { λ r. ⌜ Leaves
+        (writeGrid (now (buf .entry)) pos (viewOf grid))
+        writtenOf r
+        (bytesAfter (now (buf .entry))) (now (buf .exit)) ⌝ }
 {
     if !fits::writable(grid) {
         return Written::Refused(Refusal::Record);
