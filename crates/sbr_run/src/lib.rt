@@ -1,4 +1,4 @@
-// A transmitter's turn and a receiver's reading, each with what it carries on. The claim about whole lists of them is in specs/Claim.antt.
+// A transmitter's turn and a receiver's reading, each with what it carries on. The claim about whole lists of them is in specs/Term3.antt.
 use sbr_grid::Answer;
 use sbr_grid::Refusal;
 use sbr_grid::SbrGrid;
