@@ -8,7 +8,7 @@ use lib.ListN.{getD}
 use Rattle.sbr_grid.specs.declared.FrameClass.{FrameClass}
 use Rattle.sbr_grid.specs.declared.SbrGrid.{SbrGrid}
 use Rattle.sbr_grid.specs.Grid.{classOf}
-use Rattle.case_io.specs.Layout.{gridOf}
+use Rattle.case_io.specs.Layout.{bytesGrid}
 
 -- a record of parts that were made of its bytes
 pub grid-whole : (bs : List ℕ) (c : FrameClass) (n q : ℕ) (f g h i j : Bool) (k m : ℕ) → c ≡ classOf (getD bs 0 0 % 4) → n ≡ getD bs 1 0 → q ≡ getD bs 2 0
@@ -27,5 +27,5 @@ pub grid-whole : (bs : List ℕ) (c : FrameClass) (n q : ℕ) (f g h i j : Bool)
       «num_rel_1» = m;
       pointer = getD bs 20 0;
       «amp_res_override» = false;
-    }) (gridOf bs)
+    }) (bytesGrid bs)
 grid-whole bs c n q f g h i j k m e1 e2 e3 e4 e5 e6 e7 e8 e9 e10 = rw (e1, e2, e3, e4, e5, e6, e7, e8, e9, e10)

@@ -11,15 +11,15 @@ use Rattle.sbr_grid.specs.Grid.{classOf}
 abbrev pub fourBytes : List ℕ → ℕ → ℕ → ℕ → ℕ → ℕ
 fourBytes bs a b c d = getD bs a 0 + 0x100 * getD bs b 0 + 0x10000 * getD bs c 0 + 0x1000000 * getD bs d 0
 
-abbrev pub numberOf : List ℕ → ℕ
-numberOf bs = fourBytes bs 0 1 2 3 + 0x100000000 * fourBytes bs 4 5 6 7
+abbrev pub bytesNumber : List ℕ → ℕ
+bytesNumber bs = fourBytes bs 0 1 2 3 + 0x100000000 * fourBytes bs 4 5 6 7
 
 abbrev flagAt : List ℕ → ℕ → Bool
 flagAt bs k = not (eqb (getD bs k 0) 0)
 
 -- class, counts of envelopes and noise floors, 5 resolutions, border bytes, each list's count and 4 lengths, pointer
-abbrev pub gridOf : List ℕ → SbrGrid
-gridOf bs = record {
+abbrev pub bytesGrid : List ℕ → SbrGrid
+bytesGrid bs = record {
   «frame_class» = classOf (getD bs 0 0 % 4);
   «num_env» = getD bs 1 0;
   «num_noise» = getD bs 2 0;

@@ -14,8 +14,8 @@ ghost use lib.ListN.{length, replicate};
 ghost use mathlib.Core.Bool.{not};
 ghost use lib.Dec.{eqb};
 ghost use Rattle.sbr_grid.specs.Grid.{classOf};
-ghost use Rattle.case_io.specs.Counts.{Counts};
-ghost use Rattle.case_io.specs.Layout.{numberOf, gridOf};
+ghost use Rattle.case_io.specs.Counts.{CountsFirst};
+ghost use Rattle.case_io.specs.Layout.{bytesNumber, bytesGrid};
 
 // Most entries of a table, and most samples, that a case hands in.
 pub const MAX_TABLE: usize = 255;
@@ -49,7 +49,7 @@ fn wide(byte: u8) -> u64
 
 // The number of eight bytes, low byte first.
 fn number_of(b: [u8; 8]) -> u64
-    ensures { λ r. ⌜ r ≡ numberOf b ⌝ }
+    ensures { λ r. ⌜ r ≡ bytesNumber b ⌝ }
 {
     let low = wide(b[0]) + 0x100 * wide(b[1]) + 0x10000 * wide(b[2]) + 0x1000000 * wide(b[3]);
     let high = wide(b[4]) + 0x100 * wide(b[5]) + 0x10000 * wide(b[6]) + 0x1000000 * wide(b[7]);
@@ -99,7 +99,7 @@ fn double(bits: u64) -> f64
 // Fills the start of a table, and answers how many entries it has.
 pub fn read_table(table: &mut [u8]) -> usize
     requires { ⌜ 255 ≤ length (now table) ⌝ }
-    ensures { λ r. ⌜ Counts r (now (table .exit)) ⌝ }
+    ensures { λ r. ⌜ CountsFirst r (now (table .exit)) ⌝ }
 {
     let n = next_byte() as usize;
     for i in 0..n {
@@ -111,7 +111,7 @@ pub fn read_table(table: &mut [u8]) -> usize
 // Sets the samples that are listed, and answers how many are handed in.
 pub fn read_samples(x: &mut [f64]) -> usize
     requires { ⌜ 6500 ≤ length (now x) ⌝ }
-    ensures { λ r. ⌜ Counts r (now (x .exit)) ⌝ }
+    ensures { λ r. ⌜ CountsFirst r (now (x .exit)) ⌝ }
 {
     let count = next_count(MAX_SAMPLES);
     let listed = next_count(MAX_SAMPLES);
@@ -142,7 +142,7 @@ fn class(byte: u8) -> FrameClass
 
 // The record of 21 bytes: class, counts of envelopes and noise floors, 5 resolutions, border bytes, each list's count and 4 lengths, pointer.
 fn grid_of(b: [u8; RECORD_SIZE]) -> SbrGrid
-    ensures { λ r. ⌜ r ≡ gridOf b ⌝ }
+    ensures { λ r. ⌜ r ≡ bytesGrid b ⌝ }
 {
     let frame_class = class(b[0]);
     SbrGrid {

@@ -1,6 +1,7 @@
 -- The claims hold.
 use Rattle.claims.specs.Claims.{Claims}
 use Rattle.sbr_grid.proofs.Widths.{pointer-width}
+use Rattle.sbr_time_grid.proofs.Ends.{ends-near}
 use Rattle.sbr_parse.proofs.Inverse.{reads-back, writes-back}
 use Rattle.sbr_reader.proofs.Frames.{frame-writes}
 use Rattle.sbr_choice.proofs.Best.{search-is-least, none-exactly}
@@ -10,6 +11,8 @@ use Rattle.sbr_envelopes.proofs.Unread.{energies-unread}
 use Rattle.sbr_encoder.proofs.Unread.{elections-unread}
 use Rattle.sbr_encoder.proofs.EveryElection.{every-election}
 use Rattle.sbr_run.proofs.Term3.{every-call, term3}
+use Rattle.sbr_run.proofs.Calls.{calls-are-turns}
+use Rattle.c_send.proofs.Streams.{calls-of-c}
 use Rattle.sbr_sample.proofs.Sampled.{sampled}
 use Rattle.sbr_list.proofs.Enough.{enough-input}
 use Rattle.sbr_list.proofs.Settled.{settled-input}
@@ -22,6 +25,7 @@ claims = record {
   enough-input = enough-input;
   settled-input = settled-input;
   pointer-width = pointer-width;
+  ends-near = ends-near;
   reads-back = reads-back;
   writes-back = writes-back;
   frame-writes = frame-writes;
@@ -32,6 +36,8 @@ claims = record {
   every-election = every-election;
   every-call = every-call;
   term3 = term3;
+  calls-are-turns = calls-are-turns;
+  calls-of-c = calls-of-c;
   sample = sampled;
   number-tells = number-tells;
 }

@@ -1,6 +1,7 @@
 -- Every claim that belongs to no function, a field each, in the order of the three terms. Each stands in the crate that proves it; proofs/Proved.antt
 -- gives them, so that none can be lost.
 use Rattle.sbr_grid.specs.Grid.{PointerWidth}
+use Rattle.sbr_time_grid.specs.TimeGrid.{EndsNear}
 use Rattle.sbr_parse.specs.Inverse.{ReadsBack, WritesBack}
 use Rattle.sbr_reader.specs.Inverse.{FrameWrites}
 use Rattle.sbr_choice.specs.Plans.{SearchIsLeast, NoneExactly}
@@ -9,6 +10,8 @@ use Rattle.sbr_envelopes.specs.Unread.{EnergiesUnread}
 use Rattle.sbr_encoder.specs.Unread.{ElectionsUnread}
 use Rattle.sbr_encoder.specs.Electable.{EveryElection}
 use Rattle.sbr_run.specs.Term3.{Term3, EveryCall}
+use Rattle.sbr_run.specs.Place.{CallsAreTurns}
+use Rattle.c_send.specs.Streams.{CallsOfC}
 use Rattle.sbr_sample.specs.Sample.{Sample}
 use Rattle.sbr_list.specs.Enough.{EnoughInput, SettledInput}
 use Rattle.run_lines.specs.Number.{NumberTells}
@@ -24,6 +27,8 @@ pub record Claims : Type 1 where
   -- ---- term 2: grids, bits and energies are those of the standard and of the Rust
   -- the width of bs_pointer is the least that tells the envelope count + 1 values apart
   pub pointer-width : PointerWidth
+  -- every time grid ends at most 3 slots past the frame
+  pub ends-near : EndsNear
   -- what a record writes is read back, and what was read is written again
   pub reads-back : ReadsBack
   pub writes-back : WritesBack
@@ -38,6 +43,9 @@ pub record Claims : Type 1 where
   pub every-election : EveryElection
   pub every-call : EveryCall
   pub term3 : Term3
+  -- the calls that a host makes, from C too, are the claim's turns and readings
+  pub calls-are-turns : CallsAreTurns
+  pub calls-of-c : CallsOfC
   -- a run with its readings, computed and by the claim
   pub sample : Sample
   -- ---- the replays: frames that differ have different numbers, so that a verdict on what is read can fail

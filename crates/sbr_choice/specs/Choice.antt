@@ -40,7 +40,7 @@ unfoldable pub chosenGrid : Bool → Bool → List ℕ → ℕ → ℕ → Grid
 chosenGrid variable even [] lead n = plainGrid (cond even 1 2) true lead n
 chosenGrid variable even (s ∷ os) lead n = cond variable (attackGrid s (s ∷ os) lead n) (plainGrid 4 false lead n)
 
--- what the source sends in place of a grid without time grid
+-- what the Rust sends in place of a grid without time grid
 abbrev pub fallbackGrid : List ℕ → Grid
 fallbackGrid [] = fixfixGrid 1 true
 fallbackGrid (s ∷ os) = fixfixGrid 4 false

@@ -21,7 +21,7 @@ pub record Sound (n lead : ℕ) (g : Grid) : Type 0 where
   pub ends-by : getD (time .tE) (numEnv g) 0 ≤ n + 3
   pub unlike : time .lA ≡ pos (numEnv g) → ⊥
 
--- every chosen grid is so: no frame takes the source's fallback
+-- every chosen grid is so: no frame takes the Rust's fallback
 abbrev pub ChosenIsSound : Type 0
 ChosenIsSound = (variable even : Bool) (n lead : ℕ) (os : List ℕ) → Case n lead os → Sound n lead (chosenGrid variable even os lead n)
 

@@ -51,7 +51,7 @@ abbrev pub Answers : ℕ → ℕ → List WantedBorder → Option Best → Type 
 Answers n lead ws none = (q : Plan) → IsPlan n lead ws q → ⊥
 Answers n lead ws (some b) = Least n lead ws b
 
--- every plan's grid has a time grid: the source tests that and we need not
+-- every plan's grid has a time grid: the Rust tests that and we need not
 abbrev pub PlansHaveTimes : ℕ → ℕ → List WantedBorder → Type 0
 PlansHaveTimes n lead ws =
     (q : Plan) → IsPlan n lead ws q → (t : Times) × (timeGrid n (planGrid n lead ws q) ≡ answered t)

@@ -20,6 +20,7 @@ use Rattle.sbr_time_grid.specs.TimeGrid.{byPointer, rises, tE, tQ, lA, noiseFit
 use Rattle.sbr_time_grid.proofs.Laws.{each-class}
 use Rattle.sbr_time_grid.proofs.Borders.{length-listFrom, getD-listFrom}
 use Rattle.sbr_time_grid.proofs.Marks.{noise-meet}
+use Rattle.sbr_grid.proofs.Outcomes.{unless-answered}
 use Rattle.sbr_grid.proofs.Slots.{slots-few}
 use Rattle.sbr_time_grid.proofs.Ends.{time-passes, time-ends}
 use Rattle.sbr_parse.specs.Syntax.{sbrGrid}
@@ -119,16 +120,11 @@ module _ (n : ℕ) (g : Grid) (t : Times) (e : timeGrid n g ≡ answered t) (h :
         f .0,
       )
 
--- an answer behind a test
-passes : {A : Type 0} (b : Bool) (x : Outcome A) (e : Refusal) {a : A} → cond b x (refused e) ≡ answered a → x ≡ answered a
-passes true x e h = h
-passes false x e h = let z : _≡_ {A = ℕ} 0 1 = cc in absurd (omega arith)
-
 -- the time grid of a frame is that of its record
 meets-told : (n : ℕ) (b : ℤ) (g : Grid) (q : ℕ) (t : Times) (f : Accepted) → meets n b g q t ≡ answered f → (g ≡ f .grid) × (t ≡ f .time)
 unfolding meets
 meets-told n b g q t f h =
-    let e = passes (isBorder b (getD (t .tE) 0 0 + n)) _ _ h in
+    let e = unless-answered (isBorder b (getD (t .tE) 0 0 + n)) _ _ h .1 in
     (ap (valueOr (λ x. x .grid) g) e, ap (valueOr (λ x. x .time) t) e)
 
 timed-told : (n : ℕ) (b : ℤ) (g : Grid) (q : ℕ) (o : Outcome Times) (f : Accepted) → timeGrid n g ≡ o → timed n b g q o ≡ answered f
@@ -143,7 +139,7 @@ parsed-told n b p m (refused x) f h = let z : _≡_ {A = ℕ} 0 1 = cc in absurd
 
 read-told : (n : ℕ) (b : ℤ) (p : ℕ) (bs : List Bool) (f : Accepted)
     → cond (slotCount n) (parsed n b p (length bs) (sbrGrid bs)) (refused SlotCount) ≡ answered f → timeGrid n (f .grid) ≡ answered (f .time)
-read-told n b p bs f e = parsed-told n b p (length bs) (sbrGrid bs) f (passes (slotCount n) _ _ e)
+read-told n b p bs f e = parsed-told n b p (length bs) (sbrGrid bs) f (unless-answered (slotCount n) _ _ e .1)
 
 -- what a frame that was read shows
 pub record Shows (i : ℕ) (f : Accepted) : Type 0 where

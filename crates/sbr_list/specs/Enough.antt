@@ -19,7 +19,7 @@ EnoughInput = (l : List ℕ) → getD l 2 0 ≤ 255 → listing (take mostInput 
 abbrev pub isLetter : ℕ → Bool
 isLetter b = eqb b 72 || eqb b 76
 
--- a text that is empty, or whose last line ends in a letter: every frame is there, as the line of a refusal ends in a digit
+-- a text of no line, or whose last line ends in a letter: every frame is there, as the line of a refusal ends in a digit
 unfoldable pub settled : List ℕ → Bool
 settled s = leb (length s) 1 || isLetter (getD s (length s - 2) 0)
 

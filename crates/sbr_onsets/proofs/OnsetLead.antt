@@ -14,11 +14,11 @@ use mir.Val.{SFits, toZ, ofZ}
 use mir.ValLaws.{toZ-ofZ, toZ-pos}
 use Rattle.sbr_grid.specs.Times.{slotCount}
 use Rattle.sbr_build.specs.Cases.{Case}
-use Rattle.sbr_onsets.specs.Onsets.{clamped, leadOf, onsetsOf}
+use Rattle.sbr_onsets.specs.Onsets.{heldToThree, leadOf, onsetsOf}
 use Rattle.sbr_onsets.proofs.Onsets.{onsets-apart}
 
--- a number that is clamped is at most 3
-held-small : (z : ℤ) → clamped z ≤ 3
+-- a number that is held is at most 3
+held-small : (z : ℤ) → heldToThree z ≤ 3
 held-small (pos k) = omega arith
 held-small (negsuc k) = omega arith
 
@@ -62,12 +62,12 @@ module _ (z : ℤ) (n : ℕ) (f : SFits w32 z) (h : n ≤ 16) where
 -- ---- the tests of the code
 
 -- a number below 0
-pub held-below : (z : ℤ) → ltZ z (pos 0) ≡ true → 0 ≡ clamped z
+pub held-below : (z : ℤ) → ltZ z (pos 0) ≡ true → 0 ≡ heldToThree z
 held-below (pos k) t = absurd (omega (arith, ltb-true k 0 t))
 held-below (negsuc k) t = refl
 
 -- a number above 3
-pub held-above : (z : ℤ) → ltZ (pos 3) z ≡ true → 3 ≡ clamped z
+pub held-above : (z : ℤ) → ltZ (pos 3) z ≡ true → 3 ≡ heldToThree z
 held-above (pos k) t = omega (arith, ltb-true 3 k t)
 held-above (negsuc k) t = absurd (false≢true t)
 
@@ -75,7 +75,7 @@ held-above (negsuc k) t = absurd (false≢true t)
 pub record Within (z : ℤ) : Type 0 where
   pub positive : T (nonNeg z)
   pub small : natAbs z ≤ 3
-  pub is-held : natAbs z ≡ clamped z
+  pub is-held : natAbs z ≡ heldToThree z
 
 -- neither below 0 nor above 3
 pub held-within : (z : ℤ) → ltZ z (pos 0) ≡ false → ltZ (pos 3) z ≡ false → Within z

@@ -71,11 +71,11 @@ halvesAlike e n =
 abbrev pub onsetsOf : (ℕ → Float) → ℕ → List ℕ
 onsetsOf e n = detectOnsets (isAttack e (peakOf e (n + 8))) n
 
--- a whole number clamped to 0 to 3
-abbrev pub clamped : ℤ → ℕ
-clamped (pos k) = min k 3
-clamped (negsuc k) = 0
+-- a whole number held to 0 to 3
+abbrev pub heldToThree : ℤ → ℕ
+heldToThree (pos k) = min k 3
+heldToThree (negsuc k) = 0
 
--- the lead of a frame: the previous border less the slot count, clamped to 0 to 3
+-- the lead of a frame: the previous border less the slot count, held to 0 to 3
 abbrev pub leadOf : ℕ → ℤ → ℕ
-leadOf n previous = clamped (previous -ℤ pos n)
+leadOf n previous = heldToThree (previous -ℤ pos n)

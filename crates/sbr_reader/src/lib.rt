@@ -9,9 +9,9 @@ ghost use Prim.Native.Nat.{_^_, _<_};
 ghost use lib.IntN.{pos};
 ghost use Rattle.sbr_reader.specs.Read.{isBorder, readGrid, frameReadOf};
 
-// What a receiver keeps from frame to frame.
+// What a transmitter and a receiver carry from frame to frame.
 pub struct Carried {
-    // The last border of the frame before.
+    // The carried border: the last border of the frame before.
     pub border: i32,
 }
 

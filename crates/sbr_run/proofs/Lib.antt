@@ -3,3 +3,4 @@ pub mod Transmit
 pub mod Receive
 pub mod Term3
 pub mod TurnWays
+pub mod Calls

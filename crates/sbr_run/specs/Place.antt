@@ -1,10 +1,11 @@
--- What the program hands in and hands out for a turn and for a reading.
+-- What the program hands in and hands out for a turn and for a reading, and that these are the claim's.
+use mathlib.Core.Path.{_≡_}
 use mathlib.Core.Bool.{Bool, false}
 use mathlib.Core.List.{List}
 use Prim.Native.Nat.{ℕ}
 use lib.IntN.{pos}
 use lib.Ieee.{Float}
-use Rattle.sbr_grid.specs.Refusals.{Outcome, answerOf, valueOr}
+use Rattle.sbr_grid.specs.Refusals.{Outcome, answered, answerOf, valueOr}
 use Rattle.sbr_grid.specs.Grid.{recordOf, empty}
 use Rattle.sbr_grid.specs.Times.{timeRecord, emptyTime}
 use Rattle.sbr_reader.specs.Read.{Accepted}
@@ -12,8 +13,8 @@ use Rattle.sbr_encoder.specs.Election.{elect}
 use Rattle.sbr_run.specs.declared.Place.{Place}
 use Rattle.sbr_run.specs.declared.Sending.{Sending}
 use Rattle.sbr_run.specs.declared.Receiving.{Receiving}
-use Rattle.sbr_run.specs.Run.{Turn, Turned, lastBorder}
-use Rattle.sbr_run.specs.Readings.{Reading}
+use Rattle.sbr_run.specs.Run.{Turn, Turned, Terms, Elects, State, lastBorder, moved, HandsIn}
+use Rattle.sbr_run.specs.Readings.{Reading, Receiver, heard, inTerms}
 
 -- one slot count for election and time grid, the border and position that are carried
 abbrev pub turnFrom : ℕ → List ℕ → List ℕ → List Float → Bool → List ℕ → Place → Turn
@@ -48,3 +49,26 @@ receivingOf p o = record {
   time = valueOr (λ f. timeRecord (f .time)) emptyTime o;
   place = valueOr (λ f. record { carried = record { border = pos (f .border) }; position = f .position }) p o;
 }
+
+-- ---- the calls are the turns and readings of term 3: the statement, proved in proofs/Calls.antt
+
+-- a border and a position as a host carries them
+abbrev pub placeOf : ℕ → ℕ → Place
+placeOf border position = record { carried = record { border = pos border }; position = position }
+
+pub record CallsAreTurns : Type 0 where
+  -- `send_frame` with the run's slot count and tables, and the border, position and bytes that the last turn left, makes a turn of the run
+  pub hands-in : (r : Terms) (s : State) (x : List Float) (variable : Bool)
+      → HandsIn Elects r s (turnFrom (r .slots) (r .high) (r .low) x variable (s .bytes) (placeOf (s .border) (s .position)))
+  -- what it carries on is what the turn moves; what it hands out is the frame that counts as sent
+  pub carries : (s : State) (o : Outcome Turned)
+      → sendingOf (placeOf (s .border) (s .position)) o .place ≡ placeOf (moved s o .border) (moved s o .position)
+  pub leaves : (s : State) (o : Outcome Turned) → bytesLeft (s .bytes) o ≡ moved s o .bytes
+  pub sends : (p : Place) (a : Turned)
+      → (sendingOf p (answered a) .grid ≡ recordOf (a .sent .grid)) × (sendingOf p (answered a) .time ≡ timeRecord (a .sent .time))
+  -- `receive_frame` with the slot count, those bytes and what the last reading left makes the reading in the run's terms
+  pub in-terms : (n : ℕ) (bytes : List ℕ) (c : Receiver) → readingFrom n bytes (placeOf (c .border) (c .position)) ≡ inTerms n bytes c
+  pub keeps : (c : Receiver) (o : Outcome Accepted)
+      → receivingOf (placeOf (c .border) (c .position)) o .place ≡ placeOf (heard c o .border) (heard c o .position)
+  pub reads : (p : Place) (f : Accepted)
+      → (receivingOf p (answered f) .grid ≡ recordOf (f .grid)) × (receivingOf p (answered f) .time ≡ timeRecord (f .time))

@@ -126,6 +126,7 @@ pub record Run (By : Choosing) (r : Terms) (s : State) (ts : List Turn) : Type 0
 
 -- ---- frames and the stream
 
+-- a frame, sent or read: the six respects in which term 3 says that they are alike
 pub record Frame : Type 0 where
   pub class : FrameClass
   pub borders : List ℕ

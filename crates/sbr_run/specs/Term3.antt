@@ -89,7 +89,7 @@ abbrev pub Term3 : Type 0
 Term3 = Term3Of Elects
 
 -- a choosing call whose answers are sound from the lead: each has a time grid from there to 0 to 3 slots past the frame, the writer refuses
--- it for room only, and a reader of its bits gives the same record
+-- it for room only, a reader of its bits gives the same record, and the record handed out for it has it as its view
 abbrev pub SoundChoice : Choosing → Type 0
 SoundChoice By = (r : Terms) (previous : ℤ) (e : Elected) → By r previous (answered e) → Electable (r .slots) (leadOf (r .slots) previous) (e .grid)
 

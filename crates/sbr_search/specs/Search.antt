@@ -1,4 +1,4 @@
--- The border search in the source's order: `varvar_from_borders` and `multi_onset_grid` of src/sbr_encoder.rs, docs/ORDER.md, BS.
+-- The border search in the Rust's order: `varvar_from_borders` and `multi_onset_grid` of src/sbr_encoder.rs, docs/ORDER.md, BS.
 use mathlib.Core.Bool.{Bool, true, false, cond, _&&_}
 use mathlib.Core.List.{List, [], _∷_, map}
 use mathlib.Core.Option.{Option, none, some}

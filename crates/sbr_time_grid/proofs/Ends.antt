@@ -13,7 +13,7 @@ use Rattle.sbr_grid.specs.Refusals.{answered}
 use Rattle.sbr_grid.specs.Grid.{byClass, Grid, numEnv}
 use Rattle.sbr_grid.specs.Times.{Times, slotCount}
 use Rattle.sbr_grid.proofs.Outcomes.{unless-answered}
-use Rattle.sbr_time_grid.specs.TimeGrid.{absBordLead, absBordTrail, bordersFit, tE, times, accepts, timeGrid}
+use Rattle.sbr_time_grid.specs.TimeGrid.{absBordLead, absBordTrail, bordersFit, tE, times, accepts, timeGrid, EndsNear}
 use Rattle.sbr_time_grid.proofs.Laws.{Counts, counts}
 use Rattle.sbr_time_grid.proofs.Borders.{length-listFrom, getD-listFrom}
 
@@ -71,3 +71,6 @@ time-ends n g t e =
     let p = time-passes n g t e in
     let q = simp and-eq-true-iff at (p .tests) in
     rw (p .value) (ends n g (counts g (q .0 .0 .0)) (q .0 .0 .1))
+
+pub ends-near : EndsNear
+ends-near n g t e = time-ends n g t e .end

@@ -1,9 +1,10 @@
 -- Time borders of a grid: ISO/IEC 14496-3, 4.6.18.3.3 with Tables 4.174 and 4.176. L_E is the envelope count.
 -- Borders are whole numbers from 0 on. A difference that would fall below 0 is 0 here: like the negative number it is not above
 -- the border before it, so the grid is refused either way.
+use mathlib.Core.Path.{_≡_}
 use mathlib.Core.Bool.{Bool, true, cond, _&&_}
 use mathlib.Core.List.{List, [], _∷_}
-use Prim.Native.Nat.{ℕ, zero, suc, _+_, _-_, _*_, _/_}
+use Prim.Native.Nat.{ℕ, zero, suc, _+_, _-_, _*_, _/_, _≤_}
 use lib.Dec.{leb, ltb, eqb}
 use lib.IntN.{ℤ, pos, negsuc, _-ℤ_}
 use lib.ListN.{length, getD}
@@ -51,7 +52,7 @@ unfoldable pub slotSum : (ℕ → ℕ) → ℕ → ℕ
 slotSum f zero = 0
 slotSum f (suc k) = slotSum f k + f k
 
--- f 0 .. f (k - 1), and those from i on
+-- k of them from i on: f i .. f (i + k - 1)
 unfoldable pub listFrom : (ℕ → ℕ) → ℕ → ℕ → List ℕ
 listFrom f i zero = []
 listFrom f i (suc k) = f i ∷ listFrom f (suc i) k
@@ -118,6 +119,10 @@ accepts n g = countsFit g && bordersFit g && rises (tE n g) (numEnv g) && noiseF
 
 unfoldable pub timeGrid : ℕ → Grid → Outcome Times
 timeGrid n g = unless (slotCount n) SlotCount (unless (accepts n g) TimeGrid (answered (times n g)))
+
+-- the last border of every answered time grid is at most 3 slots past the frame: proved in proofs/Ends.antt
+abbrev pub EndsNear : Type 0
+EndsNear = (n : ℕ) (g : Grid) (t : Times) → timeGrid n g ≡ answered t → getD (t .tE) (numEnv g) 0 ≤ n + 3
 
 -- what a program hands out for it
 abbrev pub derivedOf : Outcome Times → Derived

@@ -21,7 +21,7 @@ pub record Behind (w : Window) (bs : List Bool) (r : Window) : Type 0 where
 abbrev pub windowFor : List Bool → Window
 windowFor bs = appended (record { value = 0; width = 0 }) bs
 
--- n bits more fit a window of 32
+-- n bits more stay below the 32 that a window has
 pub record Space (w : Window) (n : ℕ) : Type 0 where
   pub room : w .width + n ≤ 31
   pub small : w .value < 2 ^ w .width

@@ -24,7 +24,7 @@ every f (x ∷ xs) = f x && every f xs
 abbrev pub small : List ℕ → Bool
 small rs = every (λ r. leb r 3) rs
 
--- every flag is b
+-- a flag is b; every flag is
 abbrev pub same : Bool → Bool → Bool
 same b x = cond b x (not x)
 
