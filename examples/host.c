@@ -1,4 +1,7 @@
-/* Writes two frames, reads them back and prints what was read; then elects the grid of a frame with an attack and prints its energies. */
+/*
+ * Writes four frames, the third with an attack marked at its very end, reads them back and prints what was read; then elects the grid of a
+ * frame with an attack and prints its energies.
+ */
 #include "sbr_grid.h"
 
 #include <inttypes.h>
@@ -17,7 +20,7 @@ int main(void)
     uint8_t bytes[8] = {0};
     uint64_t at = 0;
 
-    /* one envelope of high resolution; then an attack at slot 10: envelopes 0..10, 10..12, 12..16 */
+    /* one envelope of high resolution; then an attack at slot 10: envelopes 0..10, 10..12, 12..16; one envelope whose pointer marks its end */
     const uint8_t high[1] = {1}, low[3] = {0, 0, 0}, trailing[2] = {1, 0}, none[1] = {0};
     uint32_t r = sbr_write_grid(bytes, sizeof bytes, &at, SBR_FIXFIX, 1, high, 1, 0, 0, none, 1, 0, none, 1, 0, 0);
     if (r != 0)
@@ -25,15 +28,23 @@ int main(void)
     r = sbr_write_grid(bytes, sizeof bytes, &at, SBR_FIXVAR, 3, low, 3, 0, 0, none, 1, 0, trailing, 2, 2, 3);
     if (r != 0)
         return refused("write", r);
-    printf("%" PRIu64 " bits: %02X %02X %02X\n", at, bytes[0], bytes[1], bytes[2]);
+    r = sbr_write_grid(bytes, sizeof bytes, &at, SBR_FIXVAR, 1, low, 1, 0, 0, none, 1, 0, none, 1, 0, 1);
+    if (r != 0)
+        return refused("write", r);
+    r = sbr_write_grid(bytes, sizeof bytes, &at, SBR_FIXFIX, 1, high, 1, 0, 0, none, 1, 0, none, 1, 0, 0);
+    if (r != 0)
+        return refused("write", r);
+    printf("%" PRIu64 " bits: %02X %02X %02X %02X %02X\n", at, bytes[0], bytes[1], bytes[2], bytes[3], bytes[4]);
 
+    /* what a receiver carries from frame to frame: position, border, and whether the frame before marks an attack at its very end */
     uint64_t position = 0;
     int32_t border = 16;
-    for (int frame = 0; frame < 2; frame++) {
-        uint32_t numbers[SBR_NUMBERS], t_e[SBR_MAX_BORDERS], t_q[SBR_MAX_NOISE_BORDERS];
+    uint32_t attack = 0;
+    for (int frame = 0; frame < 4; frame++) {
+        uint32_t begins, numbers[SBR_NUMBERS], t_e[SBR_MAX_BORDERS], t_q[SBR_MAX_NOISE_BORDERS];
         uint8_t freq_res[SBR_MAX_ENVELOPES], rel_0[SBR_MAX_REL_BORD], rel_1[SBR_MAX_REL_BORD];
         int32_t mark;
-        r = sbr_read_grid(bytes, sizeof bytes, 16, &position, &border, numbers, freq_res, rel_0, rel_1, t_e, t_q, &mark);
+        r = sbr_read_grid(bytes, sizeof bytes, 16, &position, &border, &attack, &begins, numbers, freq_res, rel_0, rel_1, t_e, t_q, &mark);
         if (r != 0)
             return refused("read", r);
         printf("frame %d: %s, borders", frame, CLASSES[numbers[SBR_FRAME_CLASS]]);
@@ -45,7 +56,8 @@ int main(void)
         printf(", mark %" PRId32 ", resolutions ", mark);
         for (uint32_t i = 0; i < numbers[SBR_NUM_ENV]; i++)
             putchar(freq_res[i] ? 'H' : 'L');
-        printf("; next position %" PRIu64 ", border %" PRId32 "\n", position, border);
+        printf("%s%s; next position %" PRIu64 ", border %" PRId32 "\n", begins ? ", begins on an attack" : "", attack ? ", marks an attack at its very end" : "",
+               position, border);
     }
 
     /* a quiet frame with an attack in slot 10 */

@@ -5,7 +5,8 @@
  *        timeline FILE      draws a stream in the input format of gridlist (slot count, first border, count of frames, a byte each;
  *                           then the bits); - for standard input
  *
- * A frame is drawn over its slots: | a border, = an envelope of high resolution, - of low, # the marked one; below it the noise borders.
+ * A frame is drawn over its slots: | a border, = an envelope of high resolution, - of low, # the marked one; * the first border of a frame that begins on an
+ * attack, which the frame before marks at its very end; below it the noise borders.
  */
 #include "sbr_grid.h"
 
@@ -35,7 +36,7 @@ static void draw_line(const char *name, const char *line, int width)
 /* One frame: its timeline, its noise borders, its bits. */
 static void draw_frame(unsigned number, const uint8_t *bytes, uint64_t from, uint64_t to, const uint32_t numbers[SBR_NUMBERS],
                        const uint8_t freq_res[SBR_MAX_ENVELOPES], const uint32_t t_e[SBR_MAX_BORDERS],
-                       const uint32_t t_q[SBR_MAX_NOISE_BORDERS], int32_t mark)
+                       const uint32_t t_q[SBR_MAX_NOISE_BORDERS], int32_t mark, uint32_t begins_on_attack)
 {
     char line[WIDTH], noise[WIDTH], name[64];
     uint32_t envelopes = numbers[SBR_NUM_ENV];
@@ -47,7 +48,7 @@ static void draw_frame(unsigned number, const uint8_t *bytes, uint64_t from, uin
             line[x] = fill;
     }
     for (uint32_t l = 0; l <= envelopes; l++)
-        line[t_e[l] * SLOT_WIDTH] = '|';
+        line[t_e[l] * SLOT_WIDTH] = l == 0 && begins_on_attack ? '*' : '|';
     for (uint32_t l = 0; l <= numbers[SBR_NUM_NOISE]; l++)
         noise[t_q[l] * SLOT_WIDTH] = '\'';
     snprintf(name, sizeof name, "frame %-3u %s ", number, CLASSES[numbers[SBR_FRAME_CLASS]]);
@@ -67,18 +68,19 @@ static void draw_frame(unsigned number, const uint8_t *bytes, uint64_t from, uin
 /* Reads and draws frames; 0, or the number of a refusal. */
 static uint32_t draw(const uint8_t *bytes, size_t length, unsigned slots, int32_t border, unsigned count, uint64_t position)
 {
+    uint32_t attack = 0;
     draw_slots(slots);
     for (unsigned i = 0; i < count; i++) {
-        uint32_t numbers[SBR_NUMBERS], t_e[SBR_MAX_BORDERS], t_q[SBR_MAX_NOISE_BORDERS];
+        uint32_t begins, numbers[SBR_NUMBERS], t_e[SBR_MAX_BORDERS], t_q[SBR_MAX_NOISE_BORDERS];
         uint8_t freq_res[SBR_MAX_ENVELOPES], rel_0[SBR_MAX_REL_BORD], rel_1[SBR_MAX_REL_BORD];
         int32_t mark;
         uint64_t from = position;
-        uint32_t r = sbr_read_grid(bytes, length, slots, &position, &border, numbers, freq_res, rel_0, rel_1, t_e, t_q, &mark);
+        uint32_t r = sbr_read_grid(bytes, length, slots, &position, &border, &attack, &begins, numbers, freq_res, rel_0, rel_1, t_e, t_q, &mark);
         if (r != 0) {
             printf("frame %-3u refused %" PRIu32 "\n", i, r);
             return r;
         }
-        draw_frame(i, bytes, from, position, numbers, freq_res, t_e, t_q, mark);
+        draw_frame(i, bytes, from, position, numbers, freq_res, t_e, t_q, mark, begins);
     }
     return 0;
 }

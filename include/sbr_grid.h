@@ -116,13 +116,17 @@ uint32_t sbr_derive_time_grid(uint64_t num_time_slots, uint32_t frame_class, uin
  * position            bit position; moved past the frame
  * border              the last border of the frame before (the slot count for a first frame without a lead); the last border
  *                     of this frame after it
+ * attack              any number but 0 where the frame before marks an attack at its very end (0 for a first frame); 1 where this
+ *                     frame does (l_a is num_env), else 0. A refusal leaves the number that was handed in
+ * begins_on_attack    1 where the frame begins on an attack, which belongs to its first envelope: attack was handed in set; else 0
  * numbers             the record's numbers, by the places above
  * freq_res            a byte for each envelope, 1 for high resolution; the other places are 0
  * rel_bord_0, rel_bord_1    stored relative lengths; the other places are 0
  * t_e, t_q, l_a       the time grid, as in sbr_derive_time_grid
  */
 uint32_t sbr_read_grid(const uint8_t *bytes, size_t bytes_len, uint64_t num_time_slots, uint64_t *position, int32_t *border,
-                       uint32_t numbers[SBR_NUMBERS], uint8_t freq_res[SBR_MAX_ENVELOPES], uint8_t rel_bord_0[SBR_MAX_REL_BORD],
+                       uint32_t *attack, uint32_t *begins_on_attack, uint32_t numbers[SBR_NUMBERS],
+                       uint8_t freq_res[SBR_MAX_ENVELOPES], uint8_t rel_bord_0[SBR_MAX_REL_BORD],
                        uint8_t rel_bord_1[SBR_MAX_REL_BORD], uint32_t t_e[SBR_MAX_BORDERS],
                        uint32_t t_q[SBR_MAX_NOISE_BORDERS], int32_t *l_a);
 
@@ -166,6 +170,7 @@ uint32_t sbr_estimate_envelopes(const double *samples, size_t samples_len, const
  * and border on. Refused by 1, then 5 (variable_borders above 1), 3, 2, 4; nothing moves then. Read such frames with sbr_read_grid.
  *
  * border    the last border of the frame before (the slot count for a first frame); the last border of this frame after it
+ * No attack flag is carried: a frame that is sent never marks an attack at its very end.
  * The others are as in sbr_elect_grid, sbr_write_grid and sbr_derive_time_grid.
  */
 uint32_t sbr_send_frame(const double *samples, size_t samples_len, const uint8_t *high, size_t high_len, const uint8_t *low,

@@ -1,4 +1,4 @@
-"""What the makers of cases share: samples by slot, column and band, and the files that a program of the gate replays."""
+"""What the makers of cases share: samples by slot, column and band, frames as bits, and the files that a program of the gate replays."""
 import os
 import struct
 import subprocess
@@ -6,6 +6,7 @@ import subprocess
 ROOT = os.path.dirname(os.path.dirname(os.path.abspath(__file__)))
 HIGH, LOW = (10, 12, 14, 16, 20), (10, 14, 20)
 FIXFIX, FIXVAR, VARFIX, VARVAR = range(4)
+PTR_BITS = {1: 1, 2: 2, 3: 2, 4: 3, 5: 3}
 
 
 def needed(slots):
@@ -49,6 +50,35 @@ def record(cls, flags, b0=0, b1=0, rel0=(), rel1=(), pointer=0, noise=None, num_
     for rel, count in ((rel0, num_rel_0), (rel1, num_rel_1)):
         out += bytes([len(rel) if count is None else count]) + bytes(rel) + bytes(4 - len(rel))
     return out + bytes([pointer])
+
+
+def field(value, width):
+    return [value >> k & 1 for k in range(width - 1, -1, -1)]
+
+
+def fixfix(code, flag):
+    return field(0, 2) + field(code, 2) + [flag]
+
+
+def sided(cls, bord, lengths, pointer, flags):
+    n = len(lengths) + 1
+    bits = field(cls, 2) + field(bord, 2) + field(len(lengths), 2)
+    for r in lengths:
+        bits += field(r, 2)
+    return bits + field(pointer, PTR_BITS[n]) + flags
+
+
+def varvar(b0, b1, lead, trail, pointer, flags):
+    n = len(lead) + len(trail) + 1
+    bits = field(3, 2) + field(b0, 2) + field(b1, 2) + field(len(lead), 2) + field(len(trail), 2)
+    for r in lead + trail:
+        bits += field(r, 2)
+    return bits + (field(pointer, PTR_BITS[n]) + flags if n <= 5 else [])
+
+
+def pack(bits):
+    bits = bits + [0] * (-len(bits) % 8)
+    return bytes(int(''.join(map(str, bits[i:i + 8])), 2) for i in range(0, len(bits), 8))
 
 
 def store(program, mode, data):

@@ -10,34 +10,9 @@ longest input with rubbish behind it, and crates/gridlist/stdout. Seeded, so tha
 import collections
 import random
 
-from cases import store
+from cases import fixfix, pack, sided, store, varvar
 
 RANDOM = random.Random(20261115)
-PTR_BITS = {1: 1, 2: 2, 3: 2, 4: 3, 5: 3}
-
-
-def field(value, width):
-    return [value >> k & 1 for k in range(width - 1, -1, -1)]
-
-
-def fixfix(code, flag):
-    return field(0, 2) + field(code, 2) + [flag]
-
-
-def sided(cls, bord, lengths, pointer, flags):
-    n = len(lengths) + 1
-    bits = field(cls, 2) + field(bord, 2) + field(len(lengths), 2)
-    for r in lengths:
-        bits += field(r, 2)
-    return bits + field(pointer, PTR_BITS[n]) + flags
-
-
-def varvar(b0, b1, lead, trail, pointer, flags):
-    n = len(lead) + len(trail) + 1
-    bits = field(3, 2) + field(b0, 2) + field(b1, 2) + field(len(lead), 2) + field(len(trail), 2)
-    for r in lead + trail:
-        bits += field(r, 2)
-    return bits + (field(pointer, PTR_BITS[n]) + flags if n <= 5 else [])
 
 
 def some_flags(n):
@@ -67,11 +42,6 @@ def a_frame(slots, lead):
             n = len(rel[0]) + len(rel[1]) + 1
             if n <= 5 and lead + sum(2 * r + 2 for r in rel[0] + rel[1]) < slots + over:
                 return varvar(lead, over, rel[0], rel[1], RANDOM.randrange(n + 1), some_flags(n)), over
-
-
-def pack(bits):
-    bits = bits + [0] * (-len(bits) % 8)
-    return bytes(int(''.join(map(str, bits[i:i + 8])), 2) for i in range(0, len(bits), 8))
 
 
 def stream(slots, border, count):

@@ -18,8 +18,8 @@ A turn, a reading, or a byte that is changed between them:
   8 bytes  slot count
   a turn:  1 byte switch; 2 bytes how many samples are handed in, at most 6,500; all are 0.0 but those listed; 2 bytes how many are
            listed; for each 2 bytes of index and 8 bytes, the bits of a double
-Its line: the frame that is sent or read, how many numbers its rows hold, position and border after it, and of a frame that is read
-whether it is the one that was sent; or the refusal. A run ends with a line that has its counts and every byte of the range.
+Its line: the frame that is sent or read, how many numbers its rows hold, whether it begins on an attack, position, border and flag after it, and of a
+frame that is read whether it is the one that was sent; or the refusal. A run ends with a line that has its counts and every byte of the range.
 """
 import collections
 import random

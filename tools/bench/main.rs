@@ -11,7 +11,7 @@ use oracle::sbr_grid::SbrGrid;
 use oracle::sbr_qmf::Complex;
 use oracle::sbr_time_grid::derive_time_grid;
 use oxideav_core::bits::{BitReader, BitWriter};
-use port::{Record, Times, Turn};
+use port::{Place, Record, Times, Turn};
 use std::cell::RefCell;
 use std::hint::black_box;
 use std::time::Instant;
@@ -152,8 +152,8 @@ fn rust_read(c: &Case) -> usize {
 }
 
 fn port_read(c: &Case) -> usize {
-    let (mut position, mut border, mut r, mut t) = (0, c.frame.previous, NEW, NO_TIMES);
-    port::read_grid(&c.bits, c.frame.slots as u64, &mut position, &mut border, &mut r, &mut t);
+    let (mut place, mut r, mut t) = (Place { position: 0, border: c.frame.previous, attack: 0, begins: 0 }, NEW, NO_TIMES);
+    port::read_grid(&c.bits, c.frame.slots as u64, &mut place, &mut r, &mut t);
     black_box(&(&r, &t)).1.t_e[1] as usize
 }
 

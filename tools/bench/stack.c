@@ -47,7 +47,8 @@ static void read_it(void)
 {
     position = 3;
     int32_t before = border;
-    result = sbr_read_grid(bytes, BYTES, slots, &position, &border, numbers, freq_res, rel_0, rel_1, t_e, t_q, &l_a);
+    uint32_t attack = 0, begins;
+    result = sbr_read_grid(bytes, BYTES, slots, &position, &border, &attack, &begins, numbers, freq_res, rel_0, rel_1, t_e, t_q, &l_a);
     border = before;
 }
 

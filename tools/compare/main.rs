@@ -8,7 +8,7 @@ use oracle::sbr_grid::{FrameClass, SbrGrid};
 use oracle::sbr_qmf::Complex;
 use oracle::sbr_time_grid::derive_time_grid;
 use oxideav_core::bits::{BitReader, BitWriter};
-use port::{Record, Times, Turn};
+use port::{Place, Record, Times, Turn};
 use std::collections::BTreeMap;
 
 /// What stands in every output before a call, so that a touched one shows.
@@ -345,36 +345,51 @@ fn all_records(rng: &mut Rng, step: usize, counts: &mut Counts) -> Result<(), St
 
 // ---- reading
 
-fn compare_read(bytes: &[u8], start: u64, slots: u64, border: i32, counts: &mut Counts) -> Result<(), String> {
-    let (mut position, mut carried, mut r, mut t) = (start, border, OLD, OLD_TIMES);
-    let code = port::read_grid(bytes, slots, &mut position, &mut carried, &mut r, &mut t);
+fn compare_read(bytes: &[u8], from: Place, slots: u64, counts: &mut Counts) -> Result<(), String> {
+    let (mut place, mut r, mut t) = (from, OLD, OLD_TIMES);
+    let code = port::read_grid(bytes, slots, &mut place, &mut r, &mut t);
     let wanted = if slots != 15 && slots != 16 {
         Err(1)
     } else {
-        let mut reader = BitReader::new(bytes, start.min(1 << 40) as usize);
+        let mut reader = BitReader::new(bytes, from.position.min(1 << 40) as usize);
         match SbrGrid::parse(&mut reader) {
             Err(_) => Err(if reader.ended { 7 } else { 8 }),
             Ok(g) => match derive_time_grid(&g, slots as i32) {
                 Err(_) => Err(6),
-                Ok(time) if time.t_e[0] as i64 + slots as i64 != border as i64 => Err(9),
-                Ok(time) => Ok((record_of(&g), times_of(&time), reader.position() as u64, *time.t_e.last().unwrap())),
+                Ok(time) if time.t_e[0] as i64 + slots as i64 != from.border as i64 => Err(9),
+                Ok(time) => {
+                    // the mark and the envelope count are the Rust's, the flag's rule is the order's
+                    let after = Place {
+                        position: reader.position() as u64,
+                        border: *time.t_e.last().unwrap(),
+                        attack: (time.l_a == time.t_e.len() as i32 - 1) as u32,
+                        begins: (from.attack != 0) as u32,
+                    };
+                    Ok((record_of(&g), times_of(&time), after))
+                }
             },
         }
     };
     let found = match wanted {
         Err(number) => {
             count(counts, ["", "readings refused by 1", "", "", "", "", "readings refused by 6", "readings refused by 7", "readings refused by 8", "readings refused by 9"][number as usize]);
-            code == number && position == start && carried == border && r == OLD && t == OLD_TIMES
+            code == number && place == from && r == OLD && t == OLD_TIMES
         }
-        Ok((record, times, end, last)) => {
+        Ok((record, times, after)) => {
             count(counts, "readings");
-            code == 0 && r == record && t == times && position == end && carried == last
+            if after.attack == 1 {
+                count(counts, "readings of frames that mark an attack at their very end");
+            }
+            if after.begins == 1 {
+                count(counts, "readings of frames that begin on an attack");
+            }
+            code == 0 && r == record && t == times && place == after
         }
     };
     if found {
         Ok(())
     } else {
-        Err(format!("reading {bytes:02x?} at {start}, {slots} slots, border {border}: {wanted:?} wanted, program {code} {r:?} {t:?} {position} {carried}"))
+        Err(format!("reading {bytes:02x?} from {from:?}, {slots} slots: {wanted:?} wanted, program {code} {r:?} {t:?} {place:?}"))
     }
 }
 
@@ -391,7 +406,9 @@ fn any_reading(rng: &mut Rng, counts: &mut Counts) -> Result<(), String> {
         bytes.truncate(1 + rng.below(6));
     }
     let border = if rng.one_in(8) { rng.next() as i32 } else { slots as i32 + rng.below(4) as i32 };
-    compare_read(&bytes, start, slots, border, counts)
+    // any number but 0 is a set flag, also one whose low bits are 0
+    let attack = [0, 1, 2, 7, 256, 1 << 31, u32::MAX, rng.next() as u32][rng.below(8)];
+    compare_read(&bytes, Place { position: start, border, attack, begins: 77 }, slots, counts)
 }
 
 // ---- the run

@@ -26,8 +26,8 @@ extern "C" {
         rel_1: *const u8, rel_1_len: usize, num_1: u64, pointer: u8, t_e: *mut u32, t_q: *mut u32, l_a: *mut i32,
     ) -> u32;
     fn sbr_read_grid(
-        bytes: *const u8, len: usize, slots: u64, position: *mut u64, border: *mut i32, numbers: *mut u32, flags: *mut u8,
-        rel_0: *mut u8, rel_1: *mut u8, t_e: *mut u32, t_q: *mut u32, l_a: *mut i32,
+        bytes: *const u8, len: usize, slots: u64, position: *mut u64, border: *mut i32, attack: *mut u32, begins: *mut u32,
+        numbers: *mut u32, flags: *mut u8, rel_0: *mut u8, rel_1: *mut u8, t_e: *mut u32, t_q: *mut u32, l_a: *mut i32,
     ) -> u32;
     fn sbr_elect_grid(
         samples: *const f64, len: usize, high: *const u8, high_len: usize, low: *const u8, low_len: usize, previous: i32,
@@ -71,11 +71,20 @@ pub fn derive_time_grid(slots: u64, r: &Record, t: &mut Times) -> u32 {
     }
 }
 
-pub fn read_grid(bytes: &[u8], slots: u64, position: &mut u64, border: &mut i32, r: &mut Record, t: &mut Times) -> u32 {
+/// What a reading takes and moves on, and whether its frame begins on an attack.
+#[derive(Clone, Copy, Debug, PartialEq)]
+pub struct Place {
+    pub position: u64,
+    pub border: i32,
+    pub attack: u32,
+    pub begins: u32,
+}
+
+pub fn read_grid(bytes: &[u8], slots: u64, p: &mut Place, r: &mut Record, t: &mut Times) -> u32 {
     unsafe {
         sbr_read_grid(
-            bytes.as_ptr(), bytes.len(), slots, position, border, r.numbers.as_mut_ptr(), r.flags.as_mut_ptr(),
-            r.rel_0.as_mut_ptr(), r.rel_1.as_mut_ptr(), t.t_e.as_mut_ptr(), t.t_q.as_mut_ptr(), &mut t.l_a,
+            bytes.as_ptr(), bytes.len(), slots, &mut p.position, &mut p.border, &mut p.attack, &mut p.begins, r.numbers.as_mut_ptr(),
+            r.flags.as_mut_ptr(), r.rel_0.as_mut_ptr(), r.rel_1.as_mut_ptr(), t.t_e.as_mut_ptr(), t.t_q.as_mut_ptr(), &mut t.l_a,
         )
     }
 }

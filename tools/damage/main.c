@@ -68,21 +68,24 @@ static void fail(const char *what, uint64_t number)
 struct outputs {
     uint64_t *position;
     int32_t *border;
-    uint32_t *numbers;
+    uint32_t *attack, *begins_on_attack, *numbers;
     uint8_t *freq_res, *rel_0, *rel_1;
     uint32_t *t_e, *t_q;
     int32_t *l_a;
 };
 
-static struct guarded in_memory[RANGES], out_memory[9];
+enum { OUTPUTS = 11 };
+
+static struct guarded in_memory[RANGES], out_memory[OUTPUTS];
 
 static struct outputs outputs(int at_end)
 {
     return (struct outputs){
         (uint64_t *)(void *)range(out_memory[0], 8, at_end),  (int32_t *)(void *)range(out_memory[1], 4, at_end),
-        (uint32_t *)(void *)range(out_memory[2], NUMBERS_SIZE, at_end), range(out_memory[3], 5, at_end),
-        range(out_memory[4], 4, at_end), range(out_memory[5], 4, at_end), (uint32_t *)(void *)range(out_memory[6], 24, at_end),
-        (uint32_t *)(void *)range(out_memory[7], 12, at_end), (int32_t *)(void *)range(out_memory[8], 4, at_end),
+        (uint32_t *)(void *)range(out_memory[2], 4, at_end),  (uint32_t *)(void *)range(out_memory[3], 4, at_end),
+        (uint32_t *)(void *)range(out_memory[4], NUMBERS_SIZE, at_end), range(out_memory[5], 5, at_end),
+        range(out_memory[6], 4, at_end), range(out_memory[7], 4, at_end), (uint32_t *)(void *)range(out_memory[8], 24, at_end),
+        (uint32_t *)(void *)range(out_memory[9], 12, at_end), (int32_t *)(void *)range(out_memory[10], 4, at_end),
     };
 }
 
@@ -93,7 +96,7 @@ static size_t gathered(struct outputs o, uint8_t *to)
     const struct {
         const void *from;
         size_t size;
-    } parts[] = {{o.position, 8}, {o.border, 4}, {o.numbers, NUMBERS_SIZE}, {o.freq_res, 5}, {o.rel_0, 4}, {o.rel_1, 4}, {o.t_e, 24}, {o.t_q, 12}, {o.l_a, 4}};
+    } parts[] = {{o.position, 8}, {o.border, 4}, {o.attack, 4}, {o.begins_on_attack, 4}, {o.numbers, NUMBERS_SIZE}, {o.freq_res, 5}, {o.rel_0, 4}, {o.rel_1, 4}, {o.t_e, 24}, {o.t_q, 12}, {o.l_a, 4}};
     for (size_t i = 0; i < sizeof parts / sizeof parts[0]; i++) {
         memcpy(to + n, parts[i].from, parts[i].size);
         n += parts[i].size;
@@ -143,7 +146,7 @@ static uint32_t write_some(uint8_t *bytes, size_t length, uint64_t *position, in
     return sbr_write_grid(bytes, length, position, class, n, freq_res, flags, b0, b1, first, rel_0, n0, second, rel_1, n1, pointer);
 }
 
-static uint64_t written, unwritten[10], answers[10], kinds[KINDS];
+static uint64_t written, unwritten[10], answers[10], kinds[KINDS], ended_on_attack, began_on_attack;
 
 /* A write into a range of random length at any position: bits outside those written are kept, a refusal changes nothing. */
 static void try_write(uint64_t number)
@@ -170,7 +173,7 @@ static void try_write(uint64_t number)
     written++;
 }
 
-/* Reads until a refusal, which must leave everything as it was. */
+/* Reads until a refusal, which must leave everything as it was; the flag of each frame is the next one's first output. */
 static void read_all(const uint8_t *bytes, size_t length, uint64_t start, int32_t border, uint64_t slots, uint64_t number, int at_end)
 {
     uint8_t before[128], after[128], kept[MAX_BYTES];
@@ -178,10 +181,14 @@ static void read_all(const uint8_t *bytes, size_t length, uint64_t start, int32_
     struct outputs o = outputs(at_end);
     *o.position = start;
     *o.border = border;
+    /* any number but 0 is a set flag, also one whose low bits are 0 */
+    if (one_in(2))
+        *o.attack = one_in(2) ? 0 : 256u << below(24);
     for (;;) {
         size_t n = gathered(o, before);
         uint64_t from = *o.position;
-        uint32_t r = sbr_read_grid(bytes, length, slots, o.position, o.border, o.numbers, o.freq_res, o.rel_0, o.rel_1, o.t_e, o.t_q, o.l_a);
+        uint32_t flag = *o.attack;
+        uint32_t r = sbr_read_grid(bytes, length, slots, o.position, o.border, o.attack, o.begins_on_attack, o.numbers, o.freq_res, o.rel_0, o.rel_1, o.t_e, o.t_q, o.l_a);
         if (r > 9)
             fail("a reading answered no number of a refusal", number);
         answers[r]++;
@@ -195,6 +202,12 @@ static void read_all(const uint8_t *bytes, size_t length, uint64_t start, int32_
         }
         if (*o.position <= from || *o.position > 8 * (uint64_t)length)
             fail("a reading ended outside its bytes", number);
+        if (*o.begins_on_attack != (flag != 0))
+            fail("a frame does not begin as the flag said", number);
+        if (*o.attack != (*o.l_a == (int32_t)o.numbers[SBR_NUM_ENV]))
+            fail("a flag is not that of the frame", number);
+        ended_on_attack += *o.attack;
+        began_on_attack += *o.begins_on_attack;
     }
 }
 
@@ -246,7 +259,7 @@ int main(int argc, char **argv)
     state = strtoull(argv[2], NULL, 10);
     for (int i = 0; i < RANGES; i++)
         in_memory[i] = guard();
-    for (int i = 0; i < 9; i++)
+    for (int i = 0; i < OUTPUTS; i++)
         out_memory[i] = guard();
     for (uint64_t i = 0; i < cases; i++) {
         try_write(i);
@@ -258,5 +271,6 @@ int main(int argc, char **argv)
     printf("writes answered: %" PRIu64 "\n", written);
     print_counts("writes refused, by number", unwritten);
     print_counts("readings by number (0: a frame)", answers);
+    printf("frames that mark an attack at their very end: %" PRIu64 ", that begin on one: %" PRIu64 "\n", ended_on_attack, began_on_attack);
     return 0;
 }

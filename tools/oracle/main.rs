@@ -5,6 +5,7 @@
 //!        oracle elections < CASES   each case as tools/election_cases.py says; prints a line for each.
 //!        oracle grids < CASES       each case as tools/grid_cases.py says; prints a line for each.
 //!        oracle runs < CASES        each run as tools/run_cases.py says; prints a line for each turn and reading.
+//!        oracle readings < CASES    each case as tools/reading_cases.py says; prints a line for each reading.
 use std::io::{Read, Write};
 
 use oracle::sbr_encoder::SbrEncoder;
@@ -356,11 +357,17 @@ fn grids(all: &[u8]) -> String {
     out
 }
 
-/// Where a run stands: the border of the last frame and the position after it.
+/// Where a run stands: the border of the last frame, whether that frame marks an attack at its very end, and the position after it.
 #[derive(Clone, Copy)]
 struct Place {
     border: i32,
+    attack: bool,
     position: u64,
+}
+
+/// Whether a frame marks an attack at its very end: its mark is its envelope count. The Rust has no such rule; it is the order's.
+fn ends_on_attack(grid: &sbr_grid::SbrGrid, time: &sbr_time_grid::TimeGrid) -> bool {
+    i64::from(time.l_a) == grid.freq_res.len() as i64
 }
 
 /// A turn: the text of the frame that it sends and the place after it, or the number of its refusal.
@@ -373,13 +380,22 @@ fn turn(frame: &Frame, variable: bool, bytes: &mut [u8], place: &mut Place) -> s
     let mut writer = BitWriter::default();
     oracle::sbr_writer::write_grid(&mut writer, &grid).map_err(|_| 5u32)?;
     let position = put(bytes, place.position, &writer).ok_or(4u32)?;
-    *place = Place { border: *time.t_e.last().unwrap(), position };
+    let begins = place.attack;
+    *place = Place { border: *time.t_e.last().unwrap(), attack: ends_on_attack(&grid, &time), position };
     let rows = frame.encoder(variable).estimate(&frame.columns(), &grid, &time.t_e).concat().len();
-    Ok(format!("sent {} rows {rows} transient {}{}", frame_text(&grid, &time), transient as u8, place_text(place)))
+    Ok(format!("sent {} rows {rows}{} transient {}{}", frame_text(&grid, &time), begins_text(begins), transient as u8, place_text(place)))
+}
+
+fn begins_text(begins: bool) -> &'static str {
+    if begins {
+        " begins on an attack"
+    } else {
+        ""
+    }
 }
 
 fn place_text(place: &Place) -> String {
-    format!(" at {} border {}", place.position, place.border)
+    format!(" at {} border {} attack {}", place.position, place.border, place.attack as u8)
 }
 
 /// How many numbers the rows of a frame hold, by the energies of silence.
@@ -391,7 +407,7 @@ fn row_count(slots: u64, high: &[u8], low: &[u8], r: &Reading) -> usize {
 /// A list of turns, readings and changed bytes.
 fn run(input: &mut Input, out: &mut String) {
     let steps = input.number(2);
-    let start = Place { border: input.number(4) as u32 as i32, position: input.number(8) };
+    let start = Place { border: input.number(4) as u32 as i32, attack: false, position: input.number(8) };
     let (high, low) = (input.table(), input.table());
     let mut bytes = vec![input.byte() as u8; 2000];
     let (mut sender, mut receiver) = (start, start);
@@ -418,8 +434,9 @@ fn run(input: &mut Input, out: &mut String) {
         } else {
             match read(&bytes[..lent], receiver.position as usize, slots, receiver.border) {
                 Ok(r) => {
-                    receiver = Place { border: r.border, position: r.position as u64 };
-                    let text = format!("{} rows {}", frame_text(&r.grid, &r.time), row_count(slots, high, low, &r));
+                    let begins = begins_text(receiver.attack);
+                    receiver = Place { border: r.border, attack: ends_on_attack(&r.grid, &r.time), position: r.position as u64 };
+                    let text = format!("{} rows {}{begins}", frame_text(&r.grid, &r.time), row_count(slots, high, low, &r));
                     let verdict = if sent.get(frames_read) == Some(&text) { "as sent" } else { "NOT AS SENT" };
                     out.push_str(&format!("read {text}{} {verdict}", place_text(&receiver)));
                     frames_read += 1;
@@ -441,6 +458,36 @@ fn runs(all: &[u8]) -> String {
     out
 }
 
+/// A list of readings of one range, each from what the last one left.
+fn listened(input: &mut Input, out: &mut String) {
+    let readings = input.byte();
+    let mut place = Place { border: input.number(4) as u32 as i32, attack: input.byte() != 0, position: input.number(8) };
+    let size = input.byte();
+    let bytes = input.bytes(size);
+    for _ in 0..readings {
+        let (slots, lent) = (input.number(8), input.number(2) as usize);
+        match read(&bytes[..lent.min(size)], place.position as usize, slots, place.border) {
+            Ok(r) => {
+                out.push_str(&format!("read {}{}", frame_text(&r.grid, &r.time), begins_text(place.attack)));
+                place = Place { border: r.border, attack: ends_on_attack(&r.grid, &r.time), position: r.position as u64 };
+            }
+            Err(number) => out.push_str(&format!("reading refused {number}")),
+        }
+        out.push_str(&place_text(&place));
+        out.push('\n');
+    }
+    out.push_str(".\n");
+}
+
+fn readings(all: &[u8]) -> String {
+    let mut out = String::new();
+    let mut input = Input(all);
+    while !input.0.is_empty() {
+        listened(&mut input, &mut out);
+    }
+    out
+}
+
 fn main() {
     let args: Vec<String> = std::env::args().collect();
     let lines = match args.get(1).map(String::as_str) {
@@ -449,8 +496,9 @@ fn main() {
         Some("elections") if args.len() == 2 => elections,
         Some("grids") if args.len() == 2 => grids,
         Some("runs") if args.len() == 2 => runs,
+        Some("readings") if args.len() == 2 => readings,
         _ => {
-            eprintln!("usage: oracle gridlist|listing|elections|grids|runs < CASES");
+            eprintln!("usage: oracle gridlist|listing|elections|grids|runs|readings < CASES");
             std::process::exit(2);
         }
     };

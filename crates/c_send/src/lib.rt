@@ -55,7 +55,11 @@ pub fn send_frame(
     }
     let before = *border;
     let place = Place {
-        carried: Carried { border: before },
+        // A turn does not look at the flag.
+        carried: Carried {
+            border: before,
+            attack: false,
+        },
         position: *position as usize,
     };
     let sending = sbr_run::send_frame(

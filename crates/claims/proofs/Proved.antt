@@ -4,16 +4,20 @@ use Rattle.sbr_grid.proofs.Widths.{pointer-width}
 use Rattle.sbr_time_grid.proofs.Ends.{ends-near}
 use Rattle.sbr_parse.proofs.Inverse.{reads-back, writes-back}
 use Rattle.sbr_reader.proofs.Frames.{frame-writes}
+use Rattle.sbr_reader.proofs.Flag.{flag-exactly, flag-only-told}
 use Rattle.sbr_choice.proofs.Best.{search-is-least, none-exactly}
 use Rattle.sbr_choice.proofs.Cases.{marked-cases}
 use Rattle.sbr_choice.proofs.Every.{chosen-is-sound}
 use Rattle.sbr_envelopes.proofs.Unread.{energies-unread}
 use Rattle.sbr_encoder.proofs.Unread.{elections-unread}
-use Rattle.sbr_encoder.proofs.EveryElection.{every-election}
+use Rattle.sbr_encoder.proofs.EveryElection.{every-election, never-at-end}
 use Rattle.sbr_run.proofs.Term3.{every-call, term3}
+use Rattle.sbr_run.proofs.Flags.{every-flag}
 use Rattle.sbr_run.proofs.Calls.{calls-are-turns}
 use Rattle.c_send.proofs.Streams.{calls-of-c}
 use Rattle.sbr_sample.proofs.Sampled.{sampled}
+use Rattle.sbr_sample.proofs.Seam.{seam}
+use Rattle.sbr_list.proofs.Unprinted.{flag-unprinted}
 use Rattle.sbr_list.proofs.Enough.{enough-input}
 use Rattle.sbr_list.proofs.Settled.{settled-input}
 use Rattle.run_lines.proofs.Tells.{number-tells}
@@ -24,20 +28,26 @@ claims = record {
   energies-unread = energies-unread;
   enough-input = enough-input;
   settled-input = settled-input;
+  flag-unprinted = flag-unprinted;
   pointer-width = pointer-width;
   ends-near = ends-near;
   reads-back = reads-back;
   writes-back = writes-back;
   frame-writes = frame-writes;
+  flag-exactly = flag-exactly;
+  flag-only-told = flag-only-told;
   search-is-least = search-is-least;
   none-exactly = none-exactly;
   chosen-is-sound = chosen-is-sound;
   marked-cases = marked-cases;
   every-election = every-election;
+  never-at-end = never-at-end;
   every-call = every-call;
   term3 = term3;
+  every-flag = every-flag;
   calls-are-turns = calls-are-turns;
   calls-of-c = calls-of-c;
   sample = sampled;
+  seam = seam;
   number-tells = number-tells;
 }

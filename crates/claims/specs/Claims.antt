@@ -4,15 +4,19 @@ use Rattle.sbr_grid.specs.Grid.{PointerWidth}
 use Rattle.sbr_time_grid.specs.TimeGrid.{EndsNear}
 use Rattle.sbr_parse.specs.Inverse.{ReadsBack, WritesBack}
 use Rattle.sbr_reader.specs.Inverse.{FrameWrites}
+use Rattle.sbr_reader.specs.Flag.{FlagExactly, FlagOnlyTold}
 use Rattle.sbr_choice.specs.Plans.{SearchIsLeast, NoneExactly}
 use Rattle.sbr_choice.specs.Chosen.{ChosenIsSound, MarkedCases}
 use Rattle.sbr_envelopes.specs.Unread.{EnergiesUnread}
 use Rattle.sbr_encoder.specs.Unread.{ElectionsUnread}
-use Rattle.sbr_encoder.specs.Electable.{EveryElection}
+use Rattle.sbr_encoder.specs.Electable.{EveryElection, NeverAtEnd}
 use Rattle.sbr_run.specs.Term3.{Term3, EveryCall}
+use Rattle.sbr_run.specs.Readings.{EveryFlag}
 use Rattle.sbr_run.specs.Place.{CallsAreTurns}
 use Rattle.c_send.specs.Streams.{CallsOfC}
 use Rattle.sbr_sample.specs.Sample.{Sample}
+use Rattle.sbr_sample.specs.Seam.{Seam}
+use Rattle.sbr_list.specs.Listing.{FlagUnprinted}
 use Rattle.sbr_list.specs.Enough.{EnoughInput, SettledInput}
 use Rattle.run_lines.specs.Number.{NumberTells}
 
@@ -24,6 +28,8 @@ pub record Claims : Type 1 where
   -- bytes past the 832 that 255 frames need change no listing, nor does more input once every frame is there
   pub enough-input : EnoughInput
   pub settled-input : SettledInput
+  -- no listing depends on the flag
+  pub flag-unprinted : FlagUnprinted
   -- ---- term 2: grids, bits and energies are those of the standard and of the Rust
   -- the width of bs_pointer is the least that tells the envelope count + 1 values apart
   pub pointer-width : PointerWidth
@@ -33,20 +39,29 @@ pub record Claims : Type 1 where
   pub reads-back : ReadsBack
   pub writes-back : WritesBack
   pub frame-writes : FrameWrites
+  -- a frame read leaves the flag set exactly where its mark is its envelope count: FIXVAR and VARVAR with bs_pointer 1; no other result depends on the flag
+  pub flag-exactly : FlagExactly
+  pub flag-only-told : FlagOnlyTold
   -- the border search answers the first of all plans, and none exactly where there is none
   pub search-is-least : SearchIsLeast
   pub none-exactly : NoneExactly
-  -- every chosen grid has a time grid from the lead to 0 to 3 slots past the frame; the marked cases
+  -- every chosen grid has a time grid from the lead to 0 to 3 slots past the frame, whose mark is not the envelope count; the marked cases
   pub chosen-is-sound : ChosenIsSound
   pub marked-cases : MarkedCases
   -- ---- term 3: what any list of turns sends, any receiver reads back
   pub every-election : EveryElection
+  -- no elected frame has its mark at its very end
+  pub never-at-end : NeverAtEnd
   pub every-call : EveryCall
   pub term3 : Term3
+  -- of any bytes: a frame begins on an attack exactly where the frame read before it has one marked at its very end
+  pub every-flag : EveryFlag
   -- the calls that a host makes, from C too, are the claim's turns and readings
   pub calls-are-turns : CallsAreTurns
   pub calls-of-c : CallsOfC
   -- a run with its readings, computed and by the claim
   pub sample : Sample
+  -- a frame of another transmitter with an attack at its very end, and the next one, which begins on it
+  pub seam : Seam
   -- ---- the replays: frames that differ have different numbers, so that a verdict on what is read can fail
   pub number-tells : NumberTells

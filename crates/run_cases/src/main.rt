@@ -4,6 +4,7 @@ use libc::STDIN_FILENO;
 use sbr_envelopes::Estimated;
 use sbr_grid::Answer;
 use sbr_grid::SbrGrid;
+use sbr_grid::TimeGrid;
 use sbr_reader::Carried;
 use sbr_run::Place;
 use sbr_run::Receiving;
@@ -49,13 +50,21 @@ fn keep(number: u64, numbers: &mut [u64; MAX_FRAMES], frames: usize) -> usize {
     frames + 1
 }
 
-// Prints a frame that is sent, and keeps its number.
+// A frame, how many numbers its rows hold, and whether it begins on an attack.
+fn print_frame(grid: SbrGrid, time: TimeGrid, count: usize, begins_on_attack: bool) {
+    run_lines::print_frame(grid, time);
+    case_io::print_field(b" rows ", count as u64);
+    run_lines::print_begins(begins_on_attack);
+}
+
+// Prints a frame that is sent, and keeps its number. It begins on an attack where the frame before it has left the flag set.
 fn sent(
     x: &[f64],
     high: &[u8],
     low: &[u8],
     num_time_slots: usize,
     sending: Sending,
+    begins_on_attack: bool,
     numbers: &mut [u64; MAX_FRAMES],
     frames: usize,
 ) -> Stepped {
@@ -64,10 +73,11 @@ fn sent(
     let place = sending.place;
     let count = rows(x, high, low, grid, num_time_slots);
     case_io::print(b"sent ");
-    run_lines::print_frame(grid, time, count);
+    print_frame(grid, time, count, begins_on_attack);
     case_io::print_flag(b" transient ", sending.transient);
     run_lines::print_place(place);
-    let frames = keep(run_lines::frame_number(grid, time), numbers, frames);
+    let number = run_lines::frame_number(grid, time, begins_on_attack);
+    let frames = keep(number, numbers, frames);
     Stepped { place, frames }
 }
 
@@ -96,7 +106,19 @@ fn turn(
     );
     let answer = sending.answer;
     match answer {
-        Answer::Given => sent(&x, high, low, num_time_slots, sending, numbers, frames),
+        Answer::Given => {
+            let begins = start.carried.attack;
+            sent(
+                &x,
+                high,
+                low,
+                num_time_slots,
+                sending,
+                begins,
+                numbers,
+                frames,
+            )
+        }
         Answer::Refused(why) => {
             let place = sending.place;
             case_io::print(b"turn ");
@@ -134,10 +156,12 @@ fn received(
     let place = receiving.place;
     let x = case_io::silence();
     let count = rows(&x, high, low, grid, num_time_slots);
+    let begins_on_attack = receiving.begins_on_attack;
     case_io::print(b"read ");
-    run_lines::print_frame(grid, time, count);
+    print_frame(grid, time, count, begins_on_attack);
     run_lines::print_place(place);
-    let frames = compare(run_lines::frame_number(grid, time), numbers, sent, frames);
+    let number = run_lines::frame_number(grid, time, begins_on_attack);
+    let frames = compare(number, numbers, sent, frames);
     Stepped { place, frames }
 }
 
@@ -253,7 +277,7 @@ fn next_place() -> Place {
     let border = case_io::next_signed();
     let position = case_io::next_number(8) as usize;
     Place {
-        carried: Carried { border },
+        carried: Carried::start(border),
         position,
     }
 }

@@ -77,9 +77,9 @@ unfolding withDigits
 digits-done a i l h = rw (drop-of-length-le l {i = i} h)
 
 -- the parts of a frame, one after another
-pub frame-whole : (g : SbrGrid) (t : TimeGrid) (k f q c b n m r : ℕ) → k ≡ classCode (g .«frame_class») → f ≡ numOf (g .«freq_res») → q ≡ withDigit k f
+pub frame-whole : (g : SbrGrid) (t : TimeGrid) (a : Bool) (k f q c b n m r : ℕ) → k ≡ 4 * bitN a + classCode (g .«frame_class») → f ≡ numOf (g .«freq_res») → q ≡ withDigit k f
     → c ≡ withDigit q (t .«num_env») → b ≡ withDigits c (t .«t_e») → n ≡ withDigits b (t .«t_q») → SFits w32 (t .«l_a»)
-    → m ≡ markNumber (toZ w32 (ofZ w32 (t .«l_a»))) → r ≡ withDigit n m → r ≡ frameNumber g t
+    → m ≡ markNumber (toZ w32 (ofZ w32 (t .«l_a»))) → r ≡ withDigit n m → r ≡ frameNumber g t a
 unfolding frameNumber withDigits
-frame-whole g t k f q c b n m r h1 h2 h3 h4 h5 h6 h7 h8 h9 =
+frame-whole g t a k f q c b n m r h1 h2 h3 h4 h5 h6 h7 h8 h9 =
     rw (h9, h8, toZ-ofZ w32 (t .«l_a») h7, h6, h5, h4, h3, h2, h1, digits-append _ (t .«t_e») _, digits-append _ (t .«t_q») _)

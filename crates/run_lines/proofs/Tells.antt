@@ -1,13 +1,13 @@
 -- Frames of the same number are alike.
 use mathlib.Core.Path.{_≡_, refl, sym, ap, _∙_}
-use mathlib.Core.Bool.{Bool}
+use mathlib.Core.Bool.{Bool, true, false}
 use mathlib.Core.List.{List, [], _∷_, _++_}
-use Prim.Native.Nat.{ℕ, zero, suc, _/_, _^_, _≤_, _<_}
+use Prim.Native.Nat.{ℕ, zero, suc, _+_, _*_, _/_, _^_, _≤_, _<_}
 use native.Mathlib.Omega.{arith}
 use lib.IntN.{ℤ, pos, negsuc}
 use lib.ListN.{length, take, drop, getD, length-append}
 use lib.Seq.{take-at, drop-at}
-use Rattle.bits.specs.Bits.{bitsOf, numOf}
+use Rattle.bits.specs.Bits.{bitN, bitsOf, numOf}
 use Rattle.bits.proofs.Numbers.{bits-num}
 use Rattle.sbr_grid.specs.declared.FrameClass.{FrameClass}
 use Rattle.sbr_grid.specs.declared.SbrGrid.{SbrGrid}
@@ -71,20 +71,35 @@ length-digits : (g : SbrGrid) (t : TimeGrid) → Digits g t → length (digitsOf
 length-digits g t d =
     omega (arith, length-append (t .«t_e») (t .«t_q» ++ (markNumber (t .«l_a») ∷ [])), length-append (t .«t_q») (markNumber (t .«l_a») ∷ []), d .borders, d .noise)
 
+-- the flag and the class in three bits
+kind-same : (a b : Bool) (c d : ℕ) → c < 4 → d < 4 → 4 * bitN a + c ≡ 4 * bitN b + d → (a ≡ b) × (c ≡ d)
+kind-same true true c d i j h = (refl, omega arith)
+kind-same true false c d i j h = absurd (omega arith)
+kind-same false true c d i j h = absurd (omega arith)
+kind-same false false c d i j h = (refl, omega arith)
+
+-- a flag is at most 1
+flag-few : (a : Bool) → bitN a ≤ 1
+flag-few true = omega arith
+flag-few false = omega arith
+
 pub number-tells : NumberTells
 unfolding frameNumber cap
-number-tells g h t u a b e =
+number-tells g h t u x y a b e =
     let few : cap (length (digitsOf g t)) ≡ 16 = ap cap (length-digits g t a) in
-    let r = digits-same (digitsOf g t) (digitsOf h u) (classCode (g .«frame_class»)) (classCode (h .«frame_class»)) (omega (arith, few, code-lt (g .«frame_class»)))
-    (omega (arith, few, code-lt (h .«frame_class»))) (omega (arith, length-digits g t a, length-digits h u b)) (a .small) (b .small) e in
+    let r = digits-same (digitsOf g t) (digitsOf h u) (4 * bitN x + classCode (g .«frame_class»)) (4 * bitN y + classCode (h .«frame_class»))
+    (omega (arith, few, code-lt (g .«frame_class»), flag-few x)) (omega (arith, few, code-lt (h .«frame_class»), flag-few y)) (omega (arith, length-digits g t a, length-digits h u b)) (a .small) (b .small) e in
+    let kind = kind-same x y _ _ (code-lt (g .«frame_class»)) (code-lt (h .«frame_class»)) (r .0) in
     let behind : t .«t_e» ++ (t .«t_q» ++ (markNumber (t .«l_a») ∷ [])) ≡ u .«t_e» ++ (u .«t_q» ++ (markNumber (u .«l_a») ∷ [])) = cc (r .1) in
     let borders = front-same 6 (t .«t_e») (u .«t_e») _ _ (a .borders) (b .borders) behind in
-    let noise = front-same 3 (t .«t_q») (u .«t_q») _ _ (a .noise) (b .noise) (borders .1) in
-    record {
-      classes = class-same _ _ (r .0);
-      flags = flags-same _ _ (a .flags) (b .flags) (cc (r .1));
-      counts = cc (r .1);
-      borders = borders .0;
-      noise = noise .0;
-      marks = mark-same _ _ (cc (noise .1));
-    }
+    let noise = front-same 3 (t .«t_q») (u .«t_q») _ _ (a .noise) (b .noise) (borders .1) in (
+      record {
+        classes = class-same _ _ (kind .1);
+        flags = flags-same _ _ (a .flags) (b .flags) (cc (r .1));
+        counts = cc (r .1);
+        borders = borders .0;
+        noise = noise .0;
+        marks = mark-same _ _ (cc (noise .1));
+      },
+      kind .0,
+    )

@@ -1,10 +1,11 @@
--- A frame in one number: two bits of class, then digits of base 32.
+-- A frame in one number: whether it begins on an attack and its class, three bits, then digits of base 32.
 use mathlib.Core.Path.{_≡_}
+use mathlib.Core.Bool.{Bool}
 use mathlib.Core.List.{List, [], _∷_, _++_}
 use Prim.Native.Nat.{ℕ, _+_, _*_, _%_, _^_, _<_}
 use lib.IntN.{ℤ, pos, negsuc}
 use lib.ListN.{length, getD}
-use Rattle.bits.specs.Bits.{numOf}
+use Rattle.bits.specs.Bits.{bitN, numOf}
 use Rattle.sbr_grid.specs.declared.SbrGrid.{SbrGrid}
 use Rattle.sbr_grid.specs.declared.TimeGrid.{TimeGrid}
 use Rattle.sbr_grid.specs.Grid.{classCode}
@@ -26,8 +27,8 @@ markNumber (negsuc n) = 2 * n + 1
 abbrev pub digitsOf : SbrGrid → TimeGrid → List ℕ
 digitsOf g t = numOf (g .«freq_res») ∷ t .«num_env» ∷ t .«t_e» ++ (t .«t_q» ++ (markNumber (t .«l_a») ∷ []))
 
-unfoldable pub frameNumber : SbrGrid → TimeGrid → ℕ
-frameNumber g t = withDigits (classCode (g .«frame_class»)) (digitsOf g t)
+unfoldable pub frameNumber : SbrGrid → TimeGrid → Bool → ℕ
+frameNumber g t begins = withDigits (4 * bitN begins + classCode (g .«frame_class»)) (digitsOf g t)
 
 -- a frame whose arrays are as long as its record says, and whose parts are digits
 pub record Digits (g : SbrGrid) (t : TimeGrid) : Type 0 where
@@ -47,4 +48,5 @@ pub record SameFrame (g h : SbrGrid) (t u : TimeGrid) : Type 0 where
 -- frames that differ in a respect have different numbers
 abbrev pub NumberTells : Type 0
 NumberTells =
-    (g h : SbrGrid) (t u : TimeGrid) → Digits g t → Digits h u → frameNumber g t ≡ frameNumber h u → SameFrame g h t u
+    (g h : SbrGrid) (t u : TimeGrid) (a b : Bool) → Digits g t → Digits h u → frameNumber g t a ≡ frameNumber h u b
+    → SameFrame g h t u × (a ≡ b)

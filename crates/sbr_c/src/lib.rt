@@ -9,7 +9,7 @@ ghost use Rattle.sbr_reader.specs.Read.{readGrid};
 ghost use Rattle.c_values.specs.Handed.{handed};
 ghost use Rattle.c_values.specs.Given.{Gives, timeOut};
 ghost use Rattle.c_bits.specs.Calls.{writeCall, timeCall, writeOut};
-ghost use Rattle.c_read.specs.Frames.{frameOut};
+ghost use Rattle.c_read.specs.Frames.{carriedIn, frameOut};
 ghost use Rattle.c_elect.specs.Elections.{electCall, electionOut};
 ghost use Rattle.c_energies.specs.Energies.{energyCall, energyOut};
 ghost use Rattle.c_send.specs.Turns.{sendCall, sendOut};
@@ -94,13 +94,16 @@ pub extern "C" fn sbr_derive_time_grid(
     )
 }
 
-// The frame at a bit position: record, time grid, the position after it and its last border.
+// The frame at a bit position: record, time grid, whether it begins on an attack, the position after it, its last border, and whether it marks an
+// attack at its very end.
 #[no_mangle]
 pub extern "C" fn sbr_read_grid(
     bytes: &[u8],
     num_time_slots: u64,
     position: &mut u64,
     border: &mut i32,
+    attack: &mut u32,
+    begins_on_attack: &mut u32,
     numbers: &mut [u32; NUMBERS],
     freq_res: &mut [u8; SbrGrid::MAX_NUM_ENV],
     rel_bord_0: &mut [u8; SbrGrid::MAX_REL_BORD],
@@ -110,16 +113,20 @@ pub extern "C" fn sbr_read_grid(
     l_a: &mut i32,
 ) -> u32
     ensures { λ r. ⌜ Gives
-        (readGrid (now (bytes .entry)) (now (position .entry)) «num_time_slots» (now (border .entry)))
+        (readGrid (now (bytes .entry)) (now (position .entry)) «num_time_slots» (carriedIn (now (border .entry)) (now (attack .entry))))
         frameOut (
           now (position .entry),
           now (border .entry),
+          now (attack .entry),
+          now («begins_on_attack» .entry),
           (now (numbers .entry), now («freq_res» .entry), now («rel_bord_0» .entry), now («rel_bord_1» .entry)),
           (now («t_e» .entry), now («t_q» .entry), now («l_a» .entry)),
         )
         r (
           now (position .exit),
           now (border .exit),
+          now (attack .exit),
+          now («begins_on_attack» .exit),
           (now (numbers .exit), now («freq_res» .exit), now («rel_bord_0» .exit), now («rel_bord_1» .exit)),
           (now («t_e» .exit), now («t_q» .exit), now («l_a» .exit)),
         ) ⌝ }
@@ -129,6 +136,8 @@ pub extern "C" fn sbr_read_grid(
         num_time_slots,
         position,
         border,
+        attack,
+        begins_on_attack,
         numbers,
         freq_res,
         rel_bord_0,

@@ -10,7 +10,7 @@ use Rattle.sbr_grid.specs.declared.FrameClass.{FrameClass}
 use Rattle.sbr_grid.specs.declared.FrameClass.the-variants.{FixFix, FixVar, VarFix, VarVar}
 use Rattle.sbr_grid.specs.Refusals.{Outcome, answered}
 use Rattle.sbr_grid.specs.Grid.{byClass, Grid}
-use Rattle.sbr_grid.specs.Times.{slotCount}
+use Rattle.sbr_grid.specs.Times.{Times, slotCount}
 use Rattle.sbr_grid.proofs.Outcomes.{unless-answered}
 use Rattle.sbr_time_grid.proofs.Ends.{time-ends}
 use Rattle.sbr_qmf.specs.Qmf.{SampleAt, columns, samplesNeeded}
@@ -26,7 +26,7 @@ use Rattle.sbr_onsets.specs.Onsets.{halvesAlike, onsetsOf, leadOf}
 use Rattle.sbr_means.proofs.Spans.{spans-length}
 use Rattle.sbr_resolution.specs.Resolution.{electFreqRes}
 use Rattle.sbr_encoder.specs.Election.{withFreqRes, electedFor, electedOf, elect}
-use Rattle.sbr_encoder.specs.Electable.{Electable, EveryElection}
+use Rattle.sbr_encoder.specs.Electable.{Electable, EveryElection, NotAtEnd, NeverAtEnd}
 use Rattle.sbr_onsets.proofs.OnsetLead.{frame-case}
 use Rattle.sbr_encoder.proofs.Resolution.{time-res, Kept, kept-res}
 use Rattle.sbr_encoder.proofs.Kept.{chosen-kept}
@@ -87,3 +87,14 @@ every-election n high low x previous variable e a =
     let v : e ≡ electedOf (columns x) high low n previous variable = cc (l .1) in
     let en = slotEnergy (columns x) (entry high 0) (lastEntry high) in
     rw v (for-onsets (columns x) high low n (leadOf n previous) variable (halvesAlike en n) (onsetsOf en n) (frame-case n previous en (s .0)))
+
+-- ---- the mark
+
+-- a sound record has one time grid, and its mark is not the envelope count
+pub not-at-end : (n lead : ℕ) (g : Grid) → Sound n lead g → NotAtEnd n g
+not-at-end n lead g s t e m =
+    let same : s .time ≡ t = cc (s .derived, e) in
+    s .unlike (ap (λ (x : Times). x .lA) same ∙ m)
+
+pub never-at-end : NeverAtEnd
+never-at-end n high low x previous variable e a = not-at-end n (leadOf n previous) (e .grid) (every-election n high low x previous variable e a .sound)

@@ -1,9 +1,9 @@
 -- The slots of a frame and the record of a time grid: ISO/IEC 14496-3, 4.6.18.3.3.
-use mathlib.Core.Bool.{Bool, _||_}
+use mathlib.Core.Bool.{Bool, false, _||_}
 use mathlib.Core.List.{List, []}
 use Prim.Native.Nat.{ℕ, _-_}
 use lib.Dec.{eqb}
-use lib.IntN.{ℤ, pos}
+use lib.IntN.{ℤ, pos, negsuc}
 use lib.ListN.{length}
 use Rattle.sbr_grid.specs.Grid.{first}
 use Rattle.sbr_grid.specs.declared.TimeGrid.{TimeGrid}
@@ -17,6 +17,11 @@ pub record Times : Type 0 where
   pub tE : List ℕ
   pub tQ : List ℕ
   pub lA : ℤ
+
+-- a signed number, a mark or a carried border, is the number k
+abbrev pub isNumber : ℤ → ℕ → Bool
+isNumber (pos z) k = eqb z k
+isNumber (negsuc z) k = false
 
 -- the record of a time grid: places past a count are zero; and the empty one, which stands beside a refusal
 abbrev pub timeRecord : Times → TimeGrid

@@ -1,6 +1,6 @@
 -- A frame that was read has few and small numbers.
-use mathlib.Core.Path.{_≡_, refl, ap}
-use mathlib.Core.Bool.{Bool, true, false, cond, and-eq-true-iff}
+use mathlib.Core.Path.{_≡_}
+use mathlib.Core.Bool.{true, and-eq-true-iff}
 use mathlib.Core.List.{List, [], _∷_}
 use Prim.Native.Nat.{ℕ, zero, suc, _+_, _-_, _≤_, _<_}
 use native.Mathlib.Nat.{zero-add}
@@ -11,20 +11,18 @@ use lib.Dec.{ltb}
 use lib.IntN.{ℤ, pos, negsuc, _-ℤ_}
 use lib.ListN.{length, getD, List·getD-eq-default}
 use lib.Signed.{mag}
-use Rattle.sbr_grid.specs.declared.Refusal.{Refusal}
-use Rattle.sbr_grid.specs.declared.Refusal.the-variants.{SlotCount}
-use Rattle.sbr_grid.specs.Refusals.{Outcome, answered, refused, valueOr}
+use Rattle.sbr_grid.specs.Refusals.{answered}
 use Rattle.sbr_grid.specs.Grid.{Grid, numEnv}
-use Rattle.sbr_grid.specs.Times.{Times, slotCount}
+use Rattle.sbr_grid.specs.Times.{Times}
 use Rattle.sbr_time_grid.specs.TimeGrid.{byPointer, rises, tE, tQ, lA, noiseFits, middleBorder, listFrom, times, timeGrid}
 use Rattle.sbr_time_grid.proofs.Laws.{each-class}
 use Rattle.sbr_time_grid.proofs.Borders.{length-listFrom, getD-listFrom}
 use Rattle.sbr_time_grid.proofs.Marks.{noise-meet}
-use Rattle.sbr_grid.proofs.Outcomes.{unless-answered}
 use Rattle.sbr_grid.proofs.Slots.{slots-few}
 use Rattle.sbr_time_grid.proofs.Ends.{time-passes, time-ends}
-use Rattle.sbr_parse.specs.Syntax.{sbrGrid}
-use Rattle.sbr_reader.specs.Read.{Accepted, isBorder, meets, timed, parsed, readGrid}
+use Rattle.sbr_reader.specs.declared.Carried.{Carried}
+use Rattle.sbr_reader.specs.Read.{Accepted, readGrid}
+use Rattle.sbr_reader.proofs.Flag.{told-frame}
 use Rattle.sbr_writer.proofs.Writable.{fields-told}
 use Rattle.sbr_reader.proofs.Frames.{frame-writes}
 use Rattle.sbr_list.specs.Line.{Small, ShortTimes, Short}
@@ -120,27 +118,6 @@ module _ (n : ℕ) (g : Grid) (t : Times) (e : timeGrid n g ≡ answered t) (h :
         f .0,
       )
 
--- the time grid of a frame is that of its record
-meets-told : (n : ℕ) (b : ℤ) (g : Grid) (q : ℕ) (t : Times) (f : Accepted) → meets n b g q t ≡ answered f → (g ≡ f .grid) × (t ≡ f .time)
-unfolding meets
-meets-told n b g q t f h =
-    let e = unless-answered (isBorder b (getD (t .tE) 0 0 + n)) _ _ h .1 in
-    (ap (valueOr (λ x. x .grid) g) e, ap (valueOr (λ x. x .time) t) e)
-
-timed-told : (n : ℕ) (b : ℤ) (g : Grid) (q : ℕ) (o : Outcome Times) (f : Accepted) → timeGrid n g ≡ o → timed n b g q o ≡ answered f
-    → timeGrid n (f .grid) ≡ answered (f .time)
-timed-told n b g q (answered t) f e h = let m = meets-told n b g q t f h in rw (← (m .0), ← (m .1)) e
-timed-told n b g q (refused x) f e h = let z : _≡_ {A = ℕ} 0 1 = cc in absurd (omega arith)
-
-parsed-told : (n : ℕ) (b : ℤ) (p m : ℕ) (o : Outcome (Grid × List Bool)) (f : Accepted) → parsed n b p m o ≡ answered f
-    → timeGrid n (f .grid) ≡ answered (f .time)
-parsed-told n b p m (answered r) f h = timed-told n b (r .0) (p + (m - length (r .1))) (timeGrid n (r .0)) f refl h
-parsed-told n b p m (refused x) f h = let z : _≡_ {A = ℕ} 0 1 = cc in absurd (omega arith)
-
-read-told : (n : ℕ) (b : ℤ) (p : ℕ) (bs : List Bool) (f : Accepted)
-    → cond (slotCount n) (parsed n b p (length bs) (sbrGrid bs)) (refused SlotCount) ≡ answered f → timeGrid n (f .grid) ≡ answered (f .time)
-read-told n b p bs f e = parsed-told n b p (length bs) (sbrGrid bs) f (unless-answered (slotCount n) _ _ e .1)
-
 -- what a frame that was read shows
 pub record Shows (i : ℕ) (f : Accepted) : Type 0 where
   pub short : Short i f
@@ -149,13 +126,12 @@ pub record Shows (i : ℕ) (f : Accepted) : Type 0 where
   pub rel0 : length (f .grid .relBord0) ≤ 4
   pub rel1 : length (f .grid .relBord1) ≤ 4
 
-pub frame-shows : (l : List ℕ) (p n : ℕ) (b : ℤ) (f : Accepted) (i : ℕ) → readGrid l p n b ≡ answered f → i < 1000 → Shows i f
-unfolding readGrid
-frame-shows l p n b f i e h =
-    let w = frame-writes l p n b f e in
+pub frame-shows : (l : List ℕ) (p n : ℕ) (c : Carried) (f : Accepted) (i : ℕ) → readGrid l p n c ≡ answered f → i < 1000 → Shows i f
+frame-shows l p n c f i e h =
+    let w = frame-writes l p n c f e in
     let s = simp and-eq-true-iff at (w .written .fits) in
     let k = fields-told (f .grid) (s .0) in
-    let t = times-short n (f .grid) (f .time) (read-told n b p _ f e) (k .pointed) in
+    let t = times-short n (f .grid) (f .time) (told-frame n c f l p e .derived) (k .pointed) in
     record {
       short = record { number = h; times = t .0; flags = k .most };
       first = t .1;

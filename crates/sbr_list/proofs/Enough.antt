@@ -5,7 +5,7 @@ use mathlib.Core.List.{List, [], _∷_, _++_}
 use Prim.Native.Nat.{ℕ, zero, suc, _+_, _-_, _*_, _/_, _≤_, _<_}
 use native.Mathlib.Omega.{arith}
 use native.Mathlib.Decide.{decLe}
-use lib.IntN.{ℤ, pos}
+use lib.IntN.{pos}
 use lib.ListN.{length, take, getD, length-append}
 use lib.Seq.{length-take-le, take-all, getD-take}
 use Rattle.bits.specs.Bits.{getBit, bitsAt}
@@ -15,21 +15,22 @@ use Rattle.sbr_grid.specs.declared.Refusal.{Refusal}
 use Rattle.sbr_grid.specs.declared.Refusal.the-variants.{SlotCount, Chain}
 use Rattle.sbr_grid.specs.Refusals.{Outcome, answered, refused, valueOr, unless}
 use Rattle.sbr_grid.specs.Grid.{Grid}
-use Rattle.sbr_grid.specs.Times.{Times, slotCount}
+use Rattle.sbr_grid.specs.Times.{Times, isNumber, slotCount}
 use Rattle.sbr_time_grid.specs.TimeGrid.{timeGrid}
 use Rattle.sbr_parse.specs.Syntax.{sbrGrid}
 use Rattle.sbr_parse.proofs.Monad.{Seen}
 use Rattle.sbr_parse.proofs.Inverse.{Sent, seen-grid}
 use Rattle.sbr_parse.proofs.Window.{behind, prefix-reads}
-use Rattle.sbr_reader.specs.Read.{Accepted, isBorder, meets, timed, parsed, readGrid}
+use Rattle.sbr_reader.specs.declared.Carried.{Carried}
+use Rattle.sbr_reader.specs.Read.{Accepted, meets, timed, parsed, readGrid, carrying, starting}
 use Rattle.sbr_list.specs.Listing.{andThen, linesFrom, listing}
 use Rattle.sbr_list.specs.Enough.{mostInput, EnoughInput}
 
 -- bits behind those that are read move no position
-pub more-behind : (n : ℕ) (b : ℤ) (p : ℕ) (xs ys : List Bool) (o : Outcome (Grid × List Bool))
-    → parsed n b p (length (xs ++ ys)) (behind ys o) ≡ parsed n b p (length xs) o
-more-behind n b p xs ys (refused e) = refl
-more-behind n b p xs ys (answered r) =
+pub more-behind : (n : ℕ) (from : Carried) (p : ℕ) (xs ys : List Bool) (o : Outcome (Grid × List Bool))
+    → parsed n from p (length (xs ++ ys)) (behind ys o) ≡ parsed n from p (length xs) o
+more-behind n from p xs ys (refused e) = refl
+more-behind n from p xs ys (answered r) =
     let q : length (xs ++ ys) - length (r .1 ++ ys) ≡ length xs - length (r .1) =
     omega (arith, length-append xs ys, length-append (r .1) ys) in
     rw q
@@ -52,17 +53,17 @@ module _ (l : List ℕ) (k : ℕ) (p : ℕ) (few : k ≤ mostInput) (room : p + 
       rw (a, front p m (omega arith)) (rw (c, d) at (bitsAt-add l p m e))
 
   -- a frame of which 26 bits lie in the first k bytes is read from those
-  frame-front : (n : ℕ) (b : ℤ) → readGrid (take k l) p n b ≡ readGrid l p n b
+  frame-front : (n : ℕ) (from : Carried) → readGrid (take k l) p n from ≡ readGrid l p n from
   unfolding readGrid endOf
-  frame-front n b = go (decLe (length l) k)
+  frame-front n from = go (decLe (length l) k)
     where
-      go : Dec (length l ≤ k) → readGrid (take k l) p n b ≡ readGrid l p n b
+      go : Dec (length l ≤ k) → readGrid (take k l) p n from ≡ readGrid l p n from
       go (yes h) = rw (take-all k l h)
       go (no h) =
           let xs = bitsFrom (take k l) p in
           let ys = bitsAt l (8 * k) (endOf (length l) - 8 * k) in
           let long : 26 ≤ length xs = omega (arith, length-take-le k l (omega arith), length-bitsAt (take k l) p (endOf (length (take k l)) - p)) in
-          rw (cut (omega arith), prefix-reads xs ys long, more-behind n b p xs ys (sbrGrid xs))
+          rw (cut (omega arith), prefix-reads xs ys long, more-behind n from p xs ys (sbrGrid xs))
 
 -- an accepted frame's position is at most m
 abbrev Within : ℕ → Outcome Accepted → Type 0
@@ -72,26 +73,26 @@ within-test : (t : Bool) (e : Refusal) (o : Outcome Accepted) (m : ℕ) → With
 within-test true e o m h = h
 within-test false e o m h = omega arith
 
-within-timed : (n : ℕ) (b : ℤ) (g : Grid) (q m : ℕ) → q ≤ m → (o : Outcome Times) → Within m (timed n b g q o)
+within-timed : (n : ℕ) (from : Carried) (g : Grid) (q m : ℕ) → q ≤ m → (o : Outcome Times) → Within m (timed n from g q o)
 unfolding meets
-within-timed n b g q m h (answered t) = within-test (isBorder b (getD (t .tE) 0 0 + n)) Chain _ m h
-within-timed n b g q m h (refused e) = omega arith
+within-timed n from g q m h (answered t) = within-test (isNumber (from .border) (getD (t .tE) 0 0 + n)) Chain _ m h
+within-timed n from g q m h (refused e) = omega arith
 
-within-parsed : (n : ℕ) (b : ℤ) (p : ℕ) (bs : List Bool) → Within (p + 26) (parsed n b p (length bs) (sbrGrid bs))
-within-parsed n b p bs = go (seen-grid bs)
+within-parsed : (n : ℕ) (from : Carried) (p : ℕ) (bs : List Bool) → Within (p + 26) (parsed n from p (length bs) (sbrGrid bs))
+within-parsed n from p bs = go (seen-grid bs)
   where
-    go : Seen 26 Sent sbrGrid bs → Within (p + 26) (parsed n b p (length bs) (sbrGrid bs))
+    go : Seen 26 Sent sbrGrid bs → Within (p + 26) (parsed n from p (length bs) (sbrGrid bs))
     go (Seen.full g u r e j s t) =
-        rw (e, t .reads r) (within-timed n b g _ (p + 26) (omega (arith, length-append u r)) (timeGrid n g))
+        rw (e, t .reads r) (within-timed n from g _ (p + 26) (omega (arith, length-append u r)) (timeGrid n g))
     go (Seen.none e h never) = rw h (omega arith)
 
-within-read : (l : List ℕ) (p n : ℕ) (b : ℤ) → Within (p + 26) (readGrid l p n b)
+within-read : (l : List ℕ) (p n : ℕ) (from : Carried) → Within (p + 26) (readGrid l p n from)
 unfolding readGrid
-within-read l p n b = within-test (slotCount n) SlotCount _ (p + 26) (within-parsed n b p (bitsFrom l p))
+within-read l p n from = within-test (slotCount n) SlotCount _ (p + 26) (within-parsed n from p (bitsFrom l p))
 
 -- a frame takes at most 26 bits
-frame-short : (l : List ℕ) (p n : ℕ) (b : ℤ) (f : Accepted) → readGrid l p n b ≡ answered f → f .position ≤ p + 26
-frame-short l p n b f h = rw h at (within-read l p n b)
+frame-short : (l : List ℕ) (p n : ℕ) (from : Carried) (f : Accepted) → readGrid l p n from ≡ answered f → f .position ≤ p + 26
+frame-short l p n from f h = rw h at (within-read l p n from)
 
 -- a line and what follows it depends on what follows an accepted frame only
 same-line : (i : ℕ) (f g : Accepted → List ℕ) (o : Outcome Accepted) → ((a : Accepted) → o ≡ answered a → f a ≡ g a) → andThen i f o ≡ andThen i g o
@@ -99,16 +100,16 @@ same-line i f g (answered a) h = rw (h a refl)
 same-line i f g (refused e) h = refl
 
 -- lines of frames that all lie in the first k bytes
-lines-front : (l : List ℕ) (k n c i p : ℕ) (b : ℤ) → k ≤ mostInput → p + 26 * c ≤ 8 * k → linesFrom (take k l) n c i p b ≡ linesFrom l n c i p b
+lines-front : (l : List ℕ) (k n c i p : ℕ) (from : Carried) → k ≤ mostInput → p + 26 * c ≤ 8 * k → linesFrom (take k l) n c i p from ≡ linesFrom l n c i p from
 unfolding linesFrom
-lines-front l k n zero i p b few room = refl
-lines-front l k n (suc c) i p b few room =
-    rw (frame-front l k p few (omega arith) n b)
-    (same-line i _ _ (readGrid l p n b) (λ f h. lines-front l k n c (i + 1) (f .position) (pos (f .border)) few (omega (arith, frame-short l p n b f h))))
+lines-front l k n zero i p from few room = refl
+lines-front l k n (suc c) i p from few room =
+    rw (frame-front l k p few (omega arith) n from)
+    (same-line i _ _ (readGrid l p n from) (λ f h. lines-front l k n c (i + 1) (f .position) (carrying (f .border) (f .endsOnAttack)) few (omega (arith, frame-short l p n from f h))))
 
 pub enough-input : EnoughInput
 unfolding listing
 enough-input [] h = refl
 enough-input (n ∷ []) h = refl
 enough-input (n ∷ b ∷ []) h = refl
-enough-input (n ∷ b ∷ c ∷ l) h = lines-front l (mostInput - 3) n c 0 0 (pos b) (omega arith) (omega arith)
+enough-input (n ∷ b ∷ c ∷ l) h = lines-front l (mostInput - 3) n c 0 0 (starting (pos b)) (omega arith) (omega arith)

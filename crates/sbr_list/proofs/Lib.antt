@@ -6,3 +6,4 @@ pub mod Pages
 pub mod Turns
 pub mod Enough
 pub mod Settled
+pub mod Unprinted

@@ -6,7 +6,7 @@ use Prim.Native.Nat.{ℕ, zero, suc, _+_, _-_, _/_, _≤_, _<_}
 use native.Mathlib.Omega.{arith}
 use native.Mathlib.Decide.{decLe}
 use borrow.Author.Tests.{le-leb, lt-leb}
-use lib.IntN.{ℤ, pos}
+use lib.IntN.{pos}
 use lib.ListN.{length, take, drop, getD, length-append, List·getD-append}
 use lib.Seq.{getD-append-add, take-at}
 use Rattle.bits.specs.Bits.{getBit, bitsAt}
@@ -20,7 +20,8 @@ use Rattle.sbr_parse.specs.Syntax.{sbrGrid}
 use Rattle.sbr_parse.proofs.Monad.{Seen}
 use Rattle.sbr_parse.proofs.Inverse.{Sent, seen-grid}
 use Rattle.sbr_parse.proofs.Window.{behind}
-use Rattle.sbr_reader.specs.Read.{Accepted, parsed, readGrid}
+use Rattle.sbr_reader.specs.declared.Carried.{Carried}
+use Rattle.sbr_reader.specs.Read.{Accepted, parsed, readGrid, carrying, starting}
 use Rattle.sbr_list.specs.Listing.{decimal, frameLine, refusalLine, andThen, linesFrom, listing, over}
 use Rattle.sbr_list.specs.Enough.{isLetter, settled, SettledInput}
 use Rattle.sbr_list.proofs.Enough.{more-behind}
@@ -45,15 +46,15 @@ bits-more l m p = go (decLe p (endOf (length l)))
         (bitsFrom (l ++ m) p, rw a)
 
 -- an accepted frame is accepted with more bits behind it
-parsed-more : (n : ℕ) (b : ℤ) (p : ℕ) (xs ys : List Bool) (f : Accepted) → parsed n b p (length xs) (sbrGrid xs) ≡ answered f
-    → parsed n b p (length (xs ++ ys)) (sbrGrid (xs ++ ys)) ≡ answered f
-parsed-more n b p xs ys f h = go (seen-grid xs)
+parsed-more : (n : ℕ) (from : Carried) (p : ℕ) (xs ys : List Bool) (f : Accepted) → parsed n from p (length xs) (sbrGrid xs) ≡ answered f
+    → parsed n from p (length (xs ++ ys)) (sbrGrid (xs ++ ys)) ≡ answered f
+parsed-more n from p xs ys f h = go (seen-grid xs)
   where
-    go : Seen 26 Sent sbrGrid xs → parsed n b p (length (xs ++ ys)) (sbrGrid (xs ++ ys)) ≡ answered f
+    go : Seen 26 Sent sbrGrid xs → parsed n from p (length (xs ++ ys)) (sbrGrid (xs ++ ys)) ≡ answered f
     go (Seen.full g u r e j s t) =
         let a : sbrGrid xs ≡ answered (g, r) = rw e (t .reads r) in
         let c : sbrGrid (xs ++ ys) ≡ behind ys (sbrGrid xs) = rw (a, e, append-assoc u r ys, t .reads (r ++ ys)) in
-        rw c (more-behind n b p xs ys (sbrGrid xs) ∙ h)
+        rw c (more-behind n from p xs ys (sbrGrid xs) ∙ h)
     go (Seen.none e q never) = let z : _≡_ {A = ℕ} 0 1 = cc (rw q at h) in absurd (omega arith)
 
 -- ---- texts
@@ -104,26 +105,26 @@ refusal-long : (i : ℕ) (e : Refusal) → 2 ≤ length (refusalLine i e)
 unfolding refusalLine
 refusal-long i e = simp length-append (omega arith)
 
-lines-long : (l : List ℕ) (n c i p : ℕ) (b : ℤ) → 1 ≤ length (linesFrom l n c i p b) → 2 ≤ length (linesFrom l n c i p b)
+lines-long : (l : List ℕ) (n c i p : ℕ) (from : Carried) → 1 ≤ length (linesFrom l n c i p from) → 2 ≤ length (linesFrom l n c i p from)
 unfolding linesFrom
-lines-long l n zero i p b h = absurd (omega arith)
-lines-long l n (suc c) i p b h = go (readGrid l p n b)
+lines-long l n zero i p from h = absurd (omega arith)
+lines-long l n (suc c) i p from h = go (readGrid l p n from)
   where
-    go : (o : Outcome Accepted) → 2 ≤ length (andThen i (λ f. linesFrom l n c (i + 1) (f .position) (pos (f .border))) o)
+    go : (o : Outcome Accepted) → 2 ≤ length (andThen i (λ f. linesFrom l n c (i + 1) (f .position) (carrying (f .border) (f .endsOnAttack))) o)
     go (answered f) = frame-long i f _
     go (refused e) = refusal-long i e
 
 -- ---- listings
 
 module _ (l m : List ℕ) where
-  read-more : (p n : ℕ) (b : ℤ) (f : Accepted) → readGrid l p n b ≡ answered f → readGrid (l ++ m) p n b ≡ answered f
+  read-more : (p n : ℕ) (from : Carried) (f : Accepted) → readGrid l p n from ≡ answered f → readGrid (l ++ m) p n from ≡ answered f
   unfolding readGrid
-  read-more p n b f h = go (slotCount n) refl
+  read-more p n from f h = go (slotCount n) refl
     where
-      go : (t : Bool) → slotCount n ≡ t → readGrid (l ++ m) p n b ≡ answered f
+      go : (t : Bool) → slotCount n ≡ t → readGrid (l ++ m) p n from ≡ answered f
       go true e =
           let ys = bits-more l m p in
-          rw (e, ys .1) (parsed-more n b p (bitsFrom l p) (ys .0) f (rw e at h))
+          rw (e, ys .1) (parsed-more n from p (bitsFrom l p) (ys .0) f (rw e at h))
       go false e = let z : _≡_ {A = ℕ} 0 1 = cc (rw e at h) in absurd (omega arith)
 
 -- a line and what follows it, with more input
@@ -133,16 +134,16 @@ lines-step : (i : ℕ) (more now : Accepted → List ℕ) (p o : Outcome Accepte
 lines-step i more now p (refused e) same long rest h = absurd (not-refused i e h)
 lines-step i more now p (answered f) same long rest h = rw (same f refl, rest f (settled-append (frameLine i f) (now f) (long f) h))
 
-lines-more : (l m : List ℕ) (n c i p : ℕ) (b : ℤ) → settled (linesFrom l n c i p b) ≡ true → linesFrom (l ++ m) n c i p b ≡ linesFrom l n c i p b
+lines-more : (l m : List ℕ) (n c i p : ℕ) (from : Carried) → settled (linesFrom l n c i p from) ≡ true → linesFrom (l ++ m) n c i p from ≡ linesFrom l n c i p from
 unfolding linesFrom
-lines-more l m n zero i p b h = refl
-lines-more l m n (suc c) i p b h =
-    lines-step i _ _ (readGrid (l ++ m) p n b) (readGrid l p n b) (λ f. read-more l m p n b f)
-    (λ f. lines-long l n c (i + 1) (f .position) (pos (f .border))) (λ f. lines-more l m n c (i + 1) (f .position) (pos (f .border))) h
+lines-more l m n zero i p from h = refl
+lines-more l m n (suc c) i p from h =
+    lines-step i _ _ (readGrid (l ++ m) p n from) (readGrid l p n from) (λ f. read-more l m p n from f)
+    (λ f. lines-long l n c (i + 1) (f .position) (carrying (f .border) (f .endsOnAttack))) (λ f. lines-more l m n c (i + 1) (f .position) (carrying (f .border) (f .endsOnAttack))) h
 
 pub settled-input : SettledInput
 unfolding listing
 settled-input [] m h = absurd (not-refused 0 BitsEnd h)
 settled-input (n ∷ []) m h = absurd (not-refused 0 BitsEnd h)
 settled-input (n ∷ b ∷ []) m h = absurd (not-refused 0 BitsEnd h)
-settled-input (n ∷ b ∷ c ∷ l) m h = lines-more l m n c 0 0 (pos b) h
+settled-input (n ∷ b ∷ c ∷ l) m h = lines-more l m n c 0 0 (starting (pos b)) h

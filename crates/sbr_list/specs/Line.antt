@@ -1,5 +1,5 @@
 -- One line of the listing as the program holds it: 64 bytes, of which the first `len` are its text.
-use mathlib.Core.Bool.{cond}
+use mathlib.Core.Bool.{false, cond}
 use mathlib.Core.List.{List, [], _∷_, _++_}
 use Prim.Native.Nat.{ℕ, _+_, _≤_, _<_}
 use lib.Dec.{ltb}
@@ -62,4 +62,4 @@ timesOf t = record {
 
 -- what a line shows of a frame, by its two records
 abbrev pub shownOf : SbrGrid → TimeGrid → Accepted
-shownOf g t = record { grid = viewOf g; time = timesOf t; position = 0; border = 0 }
+shownOf g t = record { grid = viewOf g; time = timesOf t; beginsOnAttack = false; position = 0; border = 0; endsOnAttack = false }

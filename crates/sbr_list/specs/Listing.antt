@@ -1,4 +1,5 @@
 -- What `gridlist` prints: docs/ORDER.md, GL. Text is a list of bytes.
+use mathlib.Core.Path.{_≡_}
 use mathlib.Core.Bool.{Bool, true, false, cond}
 use mathlib.Core.List.{List, [], _∷_, _++_, map}
 use Prim.Native.Nat.{ℕ, zero, suc, _+_, _/_, _%_}
@@ -10,7 +11,8 @@ use Rattle.sbr_grid.specs.declared.Refusal.{Refusal}
 use Rattle.sbr_grid.specs.declared.Refusal.the-variants.{BitsEnd}
 use Rattle.sbr_grid.specs.Refusals.{Outcome, answered, refused, numberOf}
 use Rattle.sbr_grid.specs.Grid.{byClass}
-use Rattle.sbr_reader.specs.Read.{Accepted, readGrid}
+use Rattle.sbr_reader.specs.declared.Carried.{Carried}
+use Rattle.sbr_reader.specs.Read.{Accepted, readGrid, carrying, starting}
 
 -- a number below 1000 in base ten
 unfoldable pub decimal : ℕ → List ℕ
@@ -62,17 +64,24 @@ abbrev pub andThen : ℕ → (Accepted → List ℕ) → Outcome Accepted → Li
 andThen i next (answered f) = frameLine i f ++ next f
 andThen i next (refused e) = refusalLine i e
 
--- k frames from number i on, each read from the position and the border that the one before left
-unfoldable pub linesFrom : List ℕ → ℕ → ℕ → ℕ → ℕ → ℤ → List ℕ
-linesFrom l n zero i p b = []
-linesFrom l n (suc k) i p b = andThen i (λ f. linesFrom l n k (i + 1) (f .position) (pos (f .border))) (readGrid l p n b)
+-- k frames from number i on, each read from the position that the one before left and with what it left to carry
+unfoldable pub linesFrom : List ℕ → ℕ → ℕ → ℕ → ℕ → Carried → List ℕ
+linesFrom l n zero i p c = []
+linesFrom l n (suc k) i p c =
+    andThen i (λ f. linesFrom l n k (i + 1) (f .position) (carrying (f .border) (f .endsOnAttack))) (readGrid l p n c)
 
 -- slot count, previous border, frame count, then bits; fewer than three bytes are refused by 7
 unfoldable pub listing : List ℕ → List ℕ
 listing [] = refusalLine 0 BitsEnd
 listing (n ∷ []) = refusalLine 0 BitsEnd
 listing (n ∷ b ∷ []) = refusalLine 0 BitsEnd
-listing (n ∷ b ∷ k ∷ l) = linesFrom l n k 0 0 (pos b)
+listing (n ∷ b ∷ k ∷ l) = linesFrom l n k 0 0 (starting (pos b))
+
+-- no line depends on the flag that is carried: the statement, proved in proofs/Unprinted.antt
+abbrev pub FlagUnprinted : Type 0
+FlagUnprinted =
+    (l : List ℕ) (n k i p : ℕ) (b : ℤ) (a : Bool)
+    → linesFrom l n k i p (record { border = b; attack = a }) ≡ linesFrom l n k i p (record { border = b; attack = false })
 
 -- the bytes l with a text over their front
 abbrev pub over : List ℕ → List ℕ → List ℕ

@@ -8,6 +8,7 @@ ghost use Prim.Native.Nat.{_+_, _≤_};
 ghost use lib.IntN.{pos};
 ghost use lib.ListN.{length};
 ghost use lib.Seq.{sets};
+ghost use Rattle.sbr_reader.specs.Read.{starting};
 ghost use Rattle.sbr_list.specs.Listing.{linesFrom, listing, over};
 ghost use Rattle.sbr_list.specs.Line.{textOf};
 
@@ -38,8 +39,8 @@ fn put(page: &mut [u8], at: usize, line: Line) -> usize
 fn frames(bits: &[u8], slots: usize, count: usize, carried: Carried, page: &mut [u8]) -> usize
     requires few { ⌜ count ≤ 255 ⌝ }
     requires room { ⌜ 16384 ≤ length (now page) ⌝ }
-    ensures long { λ r. ⌜ r ≡ length (linesFrom (now (bits .entry)) slots count 0 0 (carried .border)) ⌝ }
-    ensures text { λ _. ⌜ now (page .exit) ≡ over (linesFrom (now (bits .entry)) slots count 0 0 (carried .border)) (now (page .entry)) ⌝ }
+    ensures long { λ r. ⌜ r ≡ length (linesFrom (now (bits .entry)) slots count 0 0 carried) ⌝ }
+    ensures text { λ _. ⌜ now (page .exit) ≡ over (linesFrom (now (bits .entry)) slots count 0 0 carried) (now (page .entry)) ⌝ }
 {
     let mut at = 0;
     let mut position = 0;
@@ -68,11 +69,11 @@ fn wide(b: u8) -> usize
     b as usize
 }
 
-// A byte as the border to carry.
-fn border(b: u8) -> Carried
-    ensures { λ r. ⌜ r ≡ record { border = pos b } ⌝ }
+// What a first frame is read from: a byte as the border, the flag clear.
+fn first(b: u8) -> Carried
+    ensures { λ r. ⌜ r ≡ starting (pos b) ⌝ }
 {
-    Carried { border: b as i32 }
+    Carried::start(b as i32)
 }
 
 // The listing of an input over the front of the page; the answer is its length.
@@ -87,7 +88,7 @@ pub fn list_grids(input: &[u8], page: &mut [u8; PAGE_SIZE]) -> usize
         &input[3..],
         wide(input[0]),
         wide(input[2]),
-        border(input[1]),
+        first(input[1]),
         page,
     )
 }

@@ -19,14 +19,17 @@ use Rattle.sbr_grid.specs.declared.Refusal.the-variants.{SlotCount, Chain}
 use Rattle.sbr_grid.specs.declared.Answer.the-variants.{Given}
 use Rattle.sbr_grid.specs.Refusals.{Outcome, answered, refused}
 use Rattle.sbr_grid.specs.Grid.{Grid, numEnv, viewOf, recordOf}
+use Rattle.sbr_grid.proofs.First.{first-getD}
 use Rattle.sbr_grid.proofs.Laws.{view-record}
+use Rattle.sbr_grid.proofs.Slots.{slots-few}
 use Rattle.sbr_grid.specs.declared.SbrGrid.{SbrGrid}
 use Rattle.sbr_grid.specs.declared.TimeGrid.{TimeGrid}
-use Rattle.sbr_grid.specs.Times.{Times, slotCount, timeRecord}
+use Rattle.sbr_grid.specs.Times.{Times, isNumber, slotCount, timeRecord}
 use Rattle.sbr_time_grid.specs.TimeGrid.{timeGrid}
+use Rattle.sbr_time_grid.proofs.Ends.{time-ends, time-passes}
 use Rattle.sbr_parse.specs.Syntax.{sbrGrid}
 use Rattle.sbr_parse.specs.Parse.{Bits, windowBits}
-use Rattle.sbr_reader.specs.Read.{Accepted, isBorder, meets, timed, readGrid, frameReadOf}
+use Rattle.sbr_reader.specs.Read.{Accepted, marksEnd, meets, timed, readGrid, carrying, leftBy, frameReadOf}
 use Rattle.sbr_reader.specs.declared.Carried.{Carried}
 use Rattle.sbr_reader.specs.declared.FrameRead.{FrameRead}
 use Rattle.sbr_parse.proofs.Inverse.{sent}
@@ -34,10 +37,15 @@ use Rattle.sbr_parse.proofs.Window.{behind, prefix-reads}
 use mir.Syntax.{w32}
 use mir.Val.{SFits, ofZ}
 
--- the bits of a carried border are those of a number below 2 ^ 31 exactly where it is that number
-pub border-bits : (b : ℤ) (k : ℕ) → SFits w32 b → k < 2 ^ 31 → eqb (ofZ w32 b) k ≡ isBorder b k
-border-bits (pos b) k f h = refl
-border-bits (negsuc b) k f h = ne-eqb (2 ^ 32 - suc b) k (λ e. omega arith)
+-- the bits of a signed number are those of a number below 2 ^ 31 exactly where it is that number
+pub number-bits : (z : ℤ) (k : ℕ) → SFits w32 z → k < 2 ^ 31 → eqb (ofZ w32 z) k ≡ isNumber z k
+number-bits (pos z) k f h = refl
+number-bits (negsuc z) k f h = ne-eqb (2 ^ 32 - suc z) k (λ e. omega arith)
+
+-- a signed number that is not the number k
+pub number-not : (z : ℤ) (k : ℕ) → (z ≡ pos k → ⊥) → isNumber z k ≡ false
+number-not (pos z) k h = ne-eqb z k (λ e. h (ap pos e))
+number-not (negsuc z) k h = refl
 
 -- no bits behind what is left
 behind-none : {A : Type 0} (o : Outcome (A × List Bool)) → behind [] o ≡ o
@@ -73,20 +81,20 @@ module _ (l : List ℕ) (p : ℕ) where
 
   -- ---- the ways out
 
-  module _ (n : ℕ) (b : ℤ) where
+  module _ (n : ℕ) (c : Carried) where
     -- 1: the slot count
-    pub read-slots : slotCount n ≡ false → readGrid l p n b ≡ refused SlotCount
+    pub read-slots : slotCount n ≡ false → readGrid l p n c ≡ refused SlotCount
     unfolding readGrid
     read-slots h = rw h
 
     -- 7 and 8: the bits
-    pub read-bits : slotCount n ≡ true → (e : Refusal) → sbrGrid (windowBits (windowOf l p)) ≡ refused e → readGrid l p n b ≡ refused e
+    pub read-bits : slotCount n ≡ true → (e : Refusal) → sbrGrid (windowBits (windowOf l p)) ≡ refused e → readGrid l p n c ≡ refused e
     unfolding readGrid
     read-bits h e k = rw (h, window-reads, k)
 
     -- a record was read: what is left is the time grid
     pub read-record : slotCount n ≡ true → (g : Grid) (r : List Bool) → sbrGrid (windowBits (windowOf l p)) ≡ answered (g, r)
-        → readGrid l p n b ≡ timed n b g (p + (windowOf l p .width - length r)) (timeGrid n g)
+        → readGrid l p n c ≡ timed n c g (p + (windowOf l p .width - length r)) (timeGrid n g)
     unfolding readGrid
     read-record h g r k =
         let e = endOf (length l) - p in
@@ -97,19 +105,26 @@ module _ (l : List ℕ) (p : ℕ) where
         rw (h, window-reads, k) (rw q)
 
 -- 9: a frame that does not begin at the carried border
-pub meets-not : (n : ℕ) (b : ℤ) (g : Grid) (q : ℕ) (t : Times) → isBorder b (getD (t .tE) 0 0 + n) ≡ false → meets n b g q t ≡ refused Chain
+pub meets-not : (n : ℕ) (c : Carried) (g : Grid) (q : ℕ) (t : Times) → isNumber (c .border) (getD (t .tE) 0 0 + n) ≡ false → meets n c g q t ≡ refused Chain
 unfolding meets
-meets-not n b g q t h = rw h
+meets-not n c g q t h = rw h
 
--- the frame of a record, a position after it and a time grid
-abbrev pub frameOf : Grid → ℕ → Times → Accepted
-frameOf g q t = record { grid = g; time = t; position = q; border = getD (t .tE) (numEnv g) 0 }
+-- the frame of a record, a position after it and a time grid, from a flag
+abbrev pub frameOf : Bool → Grid → ℕ → Times → Accepted
+frameOf a g q t = record {
+  grid = g;
+  time = t;
+  beginsOnAttack = a;
+  position = q;
+  border = getD (t .tE) (numEnv g) 0;
+  endsOnAttack = marksEnd g t;
+}
 
 -- a frame that does
-pub meets-so : (n : ℕ) (b : ℤ) (g : Grid) (q : ℕ) (t : Times) → isBorder b (getD (t .tE) 0 0 + n) ≡ true
-    → meets n b g q t ≡ answered (frameOf g q t)
+pub meets-so : (n : ℕ) (c : Carried) (g : Grid) (q : ℕ) (t : Times) → isNumber (c .border) (getD (t .tE) 0 0 + n) ≡ true
+    → meets n c g q t ≡ answered (frameOf (c .attack) g q t)
 unfolding meets
-meets-so n b g q t h = rw h
+meets-so n c g q t h = rw h
 
 -- a record that was read is the view of the record that is handed out
 pub read-view : (bs : List Bool) (g : Grid) (r : List Bool) → sbrGrid bs ≡ answered (g, r) → viewOf (recordOf g) ≡ g
@@ -120,7 +135,23 @@ pub read-left : (bs : List Bool) (g : Grid) (r : List Bool) → sbrGrid bs ≡ a
 read-left bs g r h = let s = sent bs g r h in omega (arith, ap length (s .1), length-append (s .0) r)
 
 -- what is handed out for an accepted frame
-pub read-given : (p : ℕ) (c : Carried) (f : Accepted) (g : SbrGrid) (t : TimeGrid) (q : ℕ) (b : ℤ)
-    → g ≡ recordOf (f .grid) → t ≡ timeRecord (f .time) → q ≡ f .position → b ≡ pos (f .border)
-    → _≡_ {A = FrameRead} (record { answer = Given; grid = g; time = t; position = q; carried = record { border = b } }) (frameReadOf p c (answered f))
-read-given p c f g t q b d e h k = rw (d, e, h, k)
+pub read-given : (p : ℕ) (c : Carried) (f : Accepted) (g : SbrGrid) (t : TimeGrid) (a : Bool) (q : ℕ) (z : Carried)
+    → g ≡ recordOf (f .grid) → t ≡ timeRecord (f .time) → a ≡ f .beginsOnAttack → q ≡ f .position → z ≡ carrying (f .border) (f .endsOnAttack)
+    → _≡_ {A = FrameRead} (record { answer = Given; grid = g; time = t; «begins_on_attack» = a; position = q; carried = z }) (frameReadOf p c (answered f))
+read-given p c f g t a q z d e h k l = rw (d, e, h, k, l)
+
+-- ---- what a frame leaves
+
+-- the record of a time grid has what the frame leaves
+pub record Leaving (g : Grid) (t : Times) : Type 0 where
+  pub few : timeRecord t .«num_env» ≤ 5
+  pub small : getD (timeRecord t .«t_e») (timeRecord t .«num_env») 0 ≤ 255
+  pub is : leftBy (timeRecord t) ≡ carrying (getD (t .tE) (numEnv g) 0) (marksEnd g t)
+
+pub leaving : (n : ℕ) (g : Grid) (t : Times) → timeGrid n g ≡ answered t → Leaving g t
+leaving n g t e =
+    let m = time-ends n g t e in
+    let s = slots-few n (time-passes n g t e .slots) in
+    let k : length (t .tE) - 1 ≡ numEnv g = omega arith in
+    let b = first-getD 0 6 (numEnv g) (t .tE) (omega arith) in
+    record { few = omega arith; small = rw (k, b) (omega arith); is = rw (k, b) }

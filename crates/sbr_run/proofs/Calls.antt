@@ -6,7 +6,7 @@ use Rattle.sbr_run.specs.Run.{Turned, State, moved}
 use Rattle.sbr_run.specs.Readings.{Receiver, heard}
 use Rattle.sbr_run.specs.Place.{sendingOf, bytesLeft, receivingOf, placeOf, CallsAreTurns}
 
-carries : (s : State) (o : Outcome Turned) → sendingOf (placeOf (s .border) (s .position)) o .place ≡ placeOf (moved s o .border) (moved s o .position)
+carries : (s : State) (o : Outcome Turned) → sendingOf (placeOf (s .border) (s .attack) (s .position)) o .place ≡ placeOf (moved s o .border) (moved s o .attack) (moved s o .position)
 carries s (answered a) = refl
 carries s (refused e) = refl
 
@@ -14,7 +14,7 @@ leaves : (s : State) (o : Outcome Turned) → bytesLeft (s .bytes) o ≡ moved s
 leaves s (answered a) = refl
 leaves s (refused e) = refl
 
-keeps : (c : Receiver) (o : Outcome Accepted) → receivingOf (placeOf (c .border) (c .position)) o .place ≡ placeOf (heard c o .border) (heard c o .position)
+keeps : (c : Receiver) (o : Outcome Accepted) → receivingOf (placeOf (c .border) (c .attack) (c .position)) o .place ≡ placeOf (heard c o .border) (heard c o .attack) (heard c o .position)
 keeps c (answered f) = refl
 keeps c (refused e) = refl
 
@@ -31,5 +31,5 @@ calls-are-turns = record {
   sends = λ p a. (refl, refl);
   in-terms = λ n bytes c. refl;
   keeps = keeps;
-  reads = λ p f. (refl, refl);
+  reads = λ p f. (refl, refl, refl);
 }

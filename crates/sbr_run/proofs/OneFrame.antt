@@ -1,6 +1,6 @@
 -- One frame: what a turn that answers says, and that a receiver which stands at its bits reads it.
 use mathlib.Core.Path.{_≡_, refl, sym, ap, _∙_, subst}
-use mathlib.Core.Bool.{Bool, true}
+use mathlib.Core.Bool.{Bool, true, false}
 use mathlib.Core.List.{List, _++_, []}
 use Prim.Native.Nat.{ℕ, zero, suc, _+_, _-_, _≤_}
 use native.Mathlib.Omega.{arith}
@@ -21,10 +21,12 @@ use Rattle.sbr_time_grid.proofs.Ends.{time-ends, time-passes}
 use Rattle.sbr_writer.specs.Syntax.{gridBits}
 use Rattle.sbr_writer.specs.Write.{Wrote, writable, writeGrid}
 use Rattle.sbr_parse.specs.Syntax.{sbrGrid}
-use Rattle.sbr_reader.specs.Read.{Accepted, meets, timed, parsed, readGrid}
+use Rattle.sbr_reader.specs.Read.{Accepted, marksEnd, meets, timed, parsed, readGrid, carrying}
+use Rattle.sbr_reader.proofs.ReadLaws.{number-not}
 use Rattle.sbr_onsets.specs.Onsets.{leadOf}
 use Rattle.sbr_encoder.specs.Election.{Elected}
 use Rattle.sbr_encoder.specs.Electable.{Electable}
+use Rattle.sbr_encoder.proofs.EveryElection.{not-at-end}
 use Rattle.sbr_run.specs.Run.{Turn, Sent, Turned, next, turn, Terms, Choosing, State, HandsIn, firstBorder, lastBorder, Meets}
 use Rattle.sbr_run.specs.Term3.{SoundChoice}
 
@@ -84,28 +86,36 @@ puts bytes p g w e =
 
 -- ---- a frame that a receiver can read
 
--- it meets the border b, and its bits are read back as its record
+-- it meets the border b, its bits are read back as its record, and no attack is marked at its very end
 pub record Good (n b : ℕ) (f : Sent) : Type 0 where
   pub slots : slotCount n ≡ true
   pub frame-meets : Meets n b f
   pub reads : (rest : List Bool) → sbrGrid (gridBits (f .grid) ++ rest) ≡ answered (f .grid, rest)
   pub last : getD (f .time .tE) (numEnv (f .grid)) 0 ≡ lastBorder (f .time)
+  pub clear : marksEnd (f .grid) (f .time) ≡ false
 
--- what its reading gives
-abbrev pub got : Sent → ℕ → Accepted
-got f q = record { grid = f .grid; time = f .time; position = q + length (gridBits (f .grid)); border = lastBorder (f .time) }
+-- what its reading gives, from a flag
+abbrev pub got : Sent → Bool → ℕ → Accepted
+got f a q = record {
+  grid = f .grid;
+  time = f .time;
+  beginsOnAttack = a;
+  position = q + length (gridBits (f .grid));
+  border = lastBorder (f .time);
+  endsOnAttack = marksEnd (f .grid) (f .time);
+}
 
--- a receiver that stands at its bits, with the border that it meets, reads it
-pub read-ok : (n b q : ℕ) (bytes : List ℕ) (f : Sent) (rest : List Bool) → Good n b f → bitsFrom bytes q ≡ gridBits (f .grid) ++ rest
-    → readGrid bytes q n (pos b) ≡ answered (got f q)
+-- a receiver that stands at its bits, with the border that it meets and any flag, reads it
+pub read-ok : (n b : ℕ) (a : Bool) (q : ℕ) (bytes : List ℕ) (f : Sent) (rest : List Bool) → Good n b f → bitsFrom bytes q ≡ gridBits (f .grid) ++ rest
+    → readGrid bytes q n (carrying b a) ≡ answered (got f a q)
 unfolding readGrid meets
-read-ok n b q bytes f rest h e =
+read-ok n b a q bytes f rest h e =
     let m = h .frame-meets in
     let len : length (bitsFrom bytes q) - length rest ≡ length (gridBits (f .grid)) = omega (arith, ap length e, length-append (gridBits (f .grid)) rest) in
     let test : eqb b (firstBorder (f .time) + n) ≡ true = is-true _ (subst (λ (k : ℕ). T (eqb b k)) (sym (m .begins)) (eqb-refl b)) in
     rw (h .slots) (
-    ap (parsed n (pos b) q (length (bitsFrom bytes q))) (ap sbrGrid e ∙ h .reads rest)
-    ∙ ap (timed n (pos b) (f .grid) (q + (length (bitsFrom bytes q) - length rest))) (m .derived)
+    ap (parsed n (carrying b a) q (length (bitsFrom bytes q))) (ap sbrGrid e ∙ h .reads rest)
+    ∙ ap (timed n (carrying b a) (f .grid) (q + (length (bitsFrom bytes q) - length rest))) (m .derived)
     ∙ rw (test, len, h .last) refl)
 
 -- ---- a chosen frame is one
@@ -137,6 +147,7 @@ good-by n s f i el tm =
       };
       reads = el .reads;
       last = last;
+      clear = number-not (f .time .lA) (numEnv (f .grid)) (not-at-end n _ (f .grid) sr (f .time) tm);
     }
 
 -- so a turn that answers and hands in the run's things sends such a frame

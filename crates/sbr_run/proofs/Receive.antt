@@ -1,11 +1,10 @@
 -- A list of readings: what it gives and leaves, over bytes that hold the frames' bits.
 use mathlib.Core.Path.{_≡_, refl, sym, ap, _∙_, subst}
-use mathlib.Core.Bool.{Bool}
+use mathlib.Core.Bool.{Bool, false}
 use mathlib.Core.List.{List, [], _∷_, _++_, map, append-assoc}
 use Prim.Native.Nat.{ℕ, zero, suc, _+_, _-_, _≤_, _<_}
 use native.Mathlib.Nat.{add-zero, add-suc, suc-add}
 use native.Mathlib.Omega.{arith}
-use lib.IntN.{pos}
 use lib.ListN.{length, take, drop, length-append}
 use lib.Seq.{drop-append-seam}
 use Rattle.bits.specs.Bits.{bitsAt}
@@ -13,9 +12,9 @@ use Rattle.bits.specs.Room.{endOf}
 use Rattle.sbr_grid.specs.declared.Refusal.{Refusal}
 use Rattle.sbr_grid.specs.Refusals.{Outcome, answered, refused}
 use Rattle.sbr_writer.specs.Syntax.{gridBits}
-use Rattle.sbr_reader.specs.Read.{Accepted, readGrid}
-use Rattle.sbr_run.specs.Run.{Sent, Terms, frameOf, stream}
-use Rattle.sbr_run.specs.Readings.{Reading, reading, Receiver, heard, listened, noted, read, inTerms, OwnReading, Readings, Holds}
+use Rattle.sbr_reader.specs.Read.{Accepted, marksEnd, readGrid, carrying}
+use Rattle.sbr_run.specs.Run.{Sent, Terms, State, Frame, frameOf, framesFrom, stream}
+use Rattle.sbr_run.specs.Readings.{Reading, reading, Receiver, tunedAt, heard, listened, noted, read, frameRead, inTerms, OwnReading, Readings, Holds}
 use Rattle.sbr_run.specs.Term3.{ReadBack}
 use Rattle.sbr_run.proofs.OneFrame.{Good, got, read-ok}
 use Rattle.sbr_run.proofs.Transmit.{GoodChain}
@@ -42,62 +41,70 @@ holds-past l p xs ys h =
     )
 
 -- the frame at the front is read
-pub front : (n b q : ℕ) (bytes : List ℕ) (f : Sent) (fs : List Sent) → Good n b f → Holds bytes q (stream (f ∷ fs)) → readGrid bytes q n (pos b) ≡ answered (got f q)
-front n b q bytes f fs g h = read-ok n b q bytes f (stream fs ++ h .0) g (h .1 ∙ append-assoc (gridBits (f .grid)) (stream fs) (h .0))
+pub front : (n b : ℕ) (a : Bool) (q : ℕ) (bytes : List ℕ) (f : Sent) (fs : List Sent) → Good n b f → Holds bytes q (stream (f ∷ fs))
+    → readGrid bytes q n (carrying b a) ≡ answered (got f a q)
+front n b a q bytes f fs g h = read-ok n b a q bytes f (stream fs ++ h .0) g (h .1 ∙ append-assoc (gridBits (f .grid)) (stream fs) (h .0))
 
 -- ---- lists of readings
 
--- what readings leave of the frames fs that stand from the receiver's position on
-pub record Heard (n : ℕ) (bytes : List ℕ) (c : Receiver) (rs : List Reading) (fs : List Sent) (e : ℕ) : Type 0 where
-  pub frames : read rs ≡ take (length (read rs)) fs
-  pub chain : GoodChain n (listened c rs .border) (drop (length (read rs)) fs) e
+-- what readings leave of the frames fs that stand from the receiver's position on; z is what the transmitter is left with
+pub record Heard (r : Terms) (bytes : List ℕ) (c : Receiver) (rs : List Reading) (fs : List Sent) (z : State) : Type 0 where
+  pub frames : map (frameRead r) (read rs) ≡ take (length (read rs)) (framesFrom r (c .attack) fs)
+  pub chain : GoodChain (r .slots) (listened c rs .border) (listened c rs .attack) (drop (length (read rs)) fs) z
   pub holds : Holds bytes (listened c rs .position) (stream (drop (length (read rs)) fs))
   pub passed : listened c rs .position + length (stream (drop (length (read rs)) fs)) ≡ c .position + length (stream fs)
 
-abbrev Hears : ℕ → List ℕ → List Reading → Type 0
-Hears n bytes rs = (c : Receiver) (fs : List Sent) (e : ℕ) → GoodChain n (c .border) fs e → Holds bytes (c .position) (stream fs) → Readings n bytes c rs → length (read rs) ≤ length fs → Heard n bytes c rs fs e
+abbrev Hears : Terms → List ℕ → List Reading → Type 0
+Hears r bytes rs =
+    (c : Receiver) (fs : List Sent) (z : State) → GoodChain (r .slots) (c .border) (c .attack) fs z → Holds bytes (c .position) (stream fs)
+    → Readings (r .slots) bytes c rs → length (read rs) ≤ length fs → Heard r bytes c rs fs z
 
 -- the same, by what the first reading comes to
-record By (n : ℕ) (bytes : List ℕ) (c : Receiver) (rs : List Reading) (fs : List Sent) (e : ℕ) (o : Outcome Accepted) : Type 0 where
-  frames : noted o (read rs) ≡ take (length (noted o (read rs))) fs
-  chain : GoodChain n (listened (heard c o) rs .border) (drop (length (noted o (read rs))) fs) e
+record By (r : Terms) (bytes : List ℕ) (c : Receiver) (rs : List Reading) (fs : List Sent) (z : State) (o : Outcome Accepted) : Type 0 where
+  frames : map (frameRead r) (noted o (read rs)) ≡ take (length (noted o (read rs))) (framesFrom r (c .attack) fs)
+  chain : GoodChain (r .slots) (listened (heard c o) rs .border) (listened (heard c o) rs .attack) (drop (length (noted o (read rs))) fs) z
   holds : Holds bytes (listened (heard c o) rs .position) (stream (drop (length (noted o (read rs))) fs))
   passed : listened (heard c o) rs .position + length (stream (drop (length (noted o (read rs))) fs)) ≡ c .position + length (stream fs)
 
+-- what the first reading gives, where it gives the frame f
+abbrev first : Receiver → Sent → Outcome Accepted
+first c f = answered (got f (c .attack) (c .position))
+
 -- the first reading gives the first frame
-gives : (n : ℕ) (bytes : List ℕ) (rs : List Reading) → Hears n bytes rs → (c : Receiver) (f : Sent) (fs : List Sent) (e : ℕ) → GoodChain n (c .border) (f ∷ fs) e → Holds bytes (c .position) (stream (f ∷ fs))
-    → Readings n bytes (heard c (answered (got f (c .position)))) rs → length (read rs) ≤ length fs → By n bytes c rs (f ∷ fs) e (answered (got f (c .position)))
-gives n bytes rs ih c f fs e g h own l =
-    let d = ih (heard c (answered (got f (c .position)))) fs e (g .1) (holds-past bytes (c .position) (gridBits (f .grid)) (stream fs) h) own l in
+gives : (r : Terms) (bytes : List ℕ) (rs : List Reading) → Hears r bytes rs → (c : Receiver) (f : Sent) (fs : List Sent) (z : State) → GoodChain (r .slots) (c .border) (c .attack) (f ∷ fs) z
+    → Holds bytes (c .position) (stream (f ∷ fs)) → Readings (r .slots) bytes (heard c (first c f)) rs → length (read rs) ≤ length fs → By r bytes c rs (f ∷ fs) z (first c f)
+gives r bytes rs ih c f fs z g h own l =
+    let d = ih (heard c (first c f)) fs z (g .1) (holds-past bytes (c .position) (gridBits (f .grid)) (stream fs) h) own l in
     record {
-      frames = ap {B = List Sent} (λ gs. f ∷ gs) (d .frames);
+      frames = ap {B = List Frame} (λ gs. frameOf r (f .grid) (f .time) (c .attack) ∷ gs) (d .frames);
       chain = d .chain;
       holds = d .holds;
       passed = omega (arith, d .passed, length-append (gridBits (f .grid)) (stream fs));
     }
 
-more : (n : ℕ) (bytes : List ℕ) (r : Reading) (rs : List Reading) → Hears n bytes rs → (c : Receiver) (fs : List Sent) (e : ℕ) → GoodChain n (c .border) fs e → Holds bytes (c .position) (stream fs)
-    → (o : Outcome Accepted) → reading r ≡ o → OwnReading n bytes c r o → Readings n bytes (heard c o) rs → length (noted o (read rs)) ≤ length fs → By n bytes c rs fs e o
-more n bytes r rs ih c fs e g h (refused x) q own rest l =
-    let d = ih c fs e g h rest l in record { frames = d .frames; chain = d .chain; holds = d .holds; passed = d .passed }
-more n bytes r rs ih c [] e g h (answered a) q own rest l = absurd (omega arith)
-more n bytes r rs ih c (f ∷ fs) e g h (answered a) q own rest l =
-    let is : got f (c .position) ≡ a = cc (sym (front n (c .border) (c .position) bytes f fs (g .0) h) ∙ ap reading (sym own) ∙ q) in
-    subst (λ (x : Accepted). Readings n bytes (heard c (answered x)) rs → By n bytes c rs (f ∷ fs) e (answered x)) is
-    (λ own′. gives n bytes rs ih c f fs e g h own′ (omega arith)) rest
+more : (r : Terms) (bytes : List ℕ) (x : Reading) (rs : List Reading) → Hears r bytes rs → (c : Receiver) (fs : List Sent) (z : State) → GoodChain (r .slots) (c .border) (c .attack) fs z
+    → Holds bytes (c .position) (stream fs) → (o : Outcome Accepted) → reading x ≡ o → OwnReading (r .slots) bytes c x o → Readings (r .slots) bytes (heard c o) rs → length (noted o (read rs)) ≤ length fs
+    → By r bytes c rs fs z o
+more r bytes x rs ih c fs z g h (refused e) q own rest l =
+    let d = ih c fs z g h rest l in record { frames = d .frames; chain = d .chain; holds = d .holds; passed = d .passed }
+more r bytes x rs ih c [] z g h (answered a) q own rest l = absurd (omega arith)
+more r bytes x rs ih c (f ∷ fs) z g h (answered a) q own rest l =
+    let is : got f (c .attack) (c .position) ≡ a = cc (sym (front (r .slots) (c .border) (c .attack) (c .position) bytes f fs (g .0) h) ∙ ap reading (sym own) ∙ q) in
+    subst (λ (y : Accepted). Readings (r .slots) bytes (heard c (answered y)) rs → By r bytes c rs (f ∷ fs) z (answered y)) is
+    (λ own′. gives r bytes rs ih c f fs z g h own′ (omega arith)) rest
 
-pub hears : (n : ℕ) (bytes : List ℕ) (rs : List Reading) → Hears n bytes rs
-hears n bytes [] = λ c fs e g h own l. record { frames = refl; chain = g; holds = h; passed = refl }
-hears n bytes (r ∷ rs) = λ c fs e g h own l.
-    let d = more n bytes r rs (hears n bytes rs) c fs e g h (reading r) refl (own .0) (own .1) l in
+pub hears : (r : Terms) (bytes : List ℕ) (rs : List Reading) → Hears r bytes rs
+hears r bytes [] = λ c fs z g h own l. record { frames = refl; chain = g; holds = h; passed = refl }
+hears r bytes (x ∷ rs) = λ c fs z g h own l.
+    let d = more r bytes x rs (hears r bytes rs) c fs z g h (reading x) refl (own .0) (own .1) l in
     record { frames = d .frames; chain = d .chain; holds = d .holds; passed = d .passed }
 
 -- ---- what a receiver may rely on
 
-map-take : (r : Terms) (k : ℕ) (fs : List Sent) → map (frameOf r) (take k fs) ≡ take k (map (frameOf r) fs)
-map-take r zero fs = refl
-map-take r (suc k) [] = refl
-map-take r (suc k) (f ∷ fs) = ap {B = List _} (λ gs. frameOf r f ∷ gs) (map-take r k fs)
+-- as many frames as records
+pub length-frames : (r : Terms) (a : Bool) (fs : List Sent) → length (framesFrom r a fs) ≡ length fs
+length-frames r a [] = refl
+length-frames r a (f ∷ fs) = ap suc (length-frames r (marksEnd (f .grid) (f .time)) fs)
 
 -- no frame is left where as many were read
 none-left : (fs : List Sent) (k : ℕ) → k ≡ length fs → drop k fs ≡ []
@@ -106,11 +113,11 @@ none-left [] (suc k) e = refl
 none-left (f ∷ fs) zero e = absurd (omega arith)
 none-left (f ∷ fs) (suc k) e = none-left fs k (omega arith)
 
-not-refused : (n : ℕ) (bytes : List ℕ) (c : Receiver) (fs : List Sent) (e : ℕ) → 0 < length fs → GoodChain n (c .border) fs e → Holds bytes (c .position) (stream fs)
+not-refused : (n : ℕ) (bytes : List ℕ) (c : Receiver) (fs : List Sent) (z : State) → 0 < length fs → GoodChain n (c .border) (c .attack) fs z → Holds bytes (c .position) (stream fs)
     → (x : Refusal) → reading (inTerms n bytes c) ≡ refused x → ⊥
-not-refused n bytes c [] e z g h x q = absurd (omega arith)
-not-refused n bytes c (f ∷ fs) e z g h x q =
-    let a = front n (c .border) (c .position) bytes f fs (g .0) h in
+not-refused n bytes c [] z l g h x q = absurd (omega arith)
+not-refused n bytes c (f ∷ fs) z l g h x q =
+    let a = front n (c .border) (c .attack) (c .position) bytes f fs (g .0) h in
     let y : _≡_ {A = ℕ} 0 1 = cc in absurd (omega arith)
 
 length-drop-less : (fs : List Sent) (k : ℕ) → k < length fs → 0 < length (drop k fs)
@@ -118,22 +125,23 @@ length-drop-less [] k h = absurd (omega arith)
 length-drop-less (f ∷ fs) zero h = omega arith
 length-drop-less (f ∷ fs) (suc k) h = length-drop-less fs k (omega arith)
 
-pub read-back-by : (r : Terms) (fs : List Sent) (b e : ℕ) (bytes : List ℕ) (q : ℕ) (rs : List Reading) → GoodChain (r .slots) b fs e → Holds bytes q (stream fs)
-    → Readings (r .slots) bytes (record { border = b; position = q }) rs → ReadBack r fs b e bytes q rs
-read-back-by r fs b e bytes q rs g h own =
+pub read-back-by : (r : Terms) (fs : List Sent) (b : ℕ) (z : State) (bytes : List ℕ) (q : ℕ) (rs : List Reading) → GoodChain (r .slots) b false fs z → Holds bytes q (stream fs)
+    → Readings (r .slots) bytes (tunedAt b q) rs → ReadBack r fs b z bytes q rs
+read-back-by r fs b z bytes q rs g h own =
     let n = r .slots in
-    let c : Receiver = record { border = b; position = q } in
-    let d : length (read rs) ≤ length fs → Heard n bytes c rs fs e = hears n bytes rs c fs e g h own in
+    let c = tunedAt b q in
+    let d : length (read rs) ≤ length fs → Heard r bytes c rs fs z = hears r bytes rs c fs z g h own in
+    let ended : length (read rs) ≡ length fs → GoodChain n (listened c rs .border) (listened c rs .attack) [] z = λ l.
+    subst (λ (gs : List Sent). GoodChain n (listened c rs .border) (listened c rs .attack) gs z) (none-left fs (length (read rs)) l) (d (omega arith) .chain) in
     record {
-      in-order = λ l. ap (map (frameOf r)) (d l .frames) ∙ map-take r (length (read rs)) fs;
+      in-order = λ l. d l .frames;
       answers = λ l x.
           let w = d (omega arith) in
-          not-refused n bytes (listened c rs) (drop (length (read rs)) fs) e (length-drop-less fs (length (read rs)) l) (w .chain) (w .holds) x;
-      border = λ l.
-          let w = d (omega arith) in
-          sym (subst (λ (gs : List Sent). GoodChain n (listened c rs .border) gs e) (none-left fs (length (read rs)) l) (w .chain));
+          not-refused n bytes (listened c rs) (drop (length (read rs)) fs) z (length-drop-less fs (length (read rs)) l) (w .chain) (w .holds) x;
+      border = λ l. sym (ended l .0);
+      attack = λ l. sym (ended l .1);
       position = λ l.
           let w = d (omega arith) in
-          let z = ap (λ (gs : List Sent). length (stream gs)) (none-left fs (length (read rs)) l) in
-          omega (arith, w .passed, z);
+          let e = ap (λ (gs : List Sent). length (stream gs)) (none-left fs (length (read rs)) l) in
+          omega (arith, w .passed, e);
     }

@@ -1,12 +1,12 @@
 -- A list of turns: what it leaves.
 use mathlib.Core.Path.{_≡_, refl, sym, ap, _∙_, subst}
-use mathlib.Core.Bool.{Bool}
-use mathlib.Core.List.{List, [], _∷_, _++_}
+use mathlib.Core.Bool.{Bool, false}
+use mathlib.Core.List.{List, [], _∷_, _++_, map}
 use Prim.Native.Nat.{ℕ, _+_, _-_, _*_, _^_, _≤_, _<_, min}
 use native.Mathlib.Nat.{add-zero}
 use native.Mathlib.Omega.{arith}
 use lib.IntN.{ℤ}
-use lib.ListN.{length, length-append}
+use lib.ListN.{length, replicate, length-append}
 use Rattle.bits.specs.Bits.{bitsAt, putBits}
 use Rattle.bits.specs.Room.{endOf, bitsFrom}
 use Rattle.bits.proofs.Stream.{length-putBits, put-append, bitsAt-add, kept-before, bits-put}
@@ -14,24 +14,37 @@ use Rattle.bits.proofs.After.{kept-after}
 use Rattle.bits.proofs.Room.{room}
 use Rattle.sbr_grid.specs.Refusals.{Outcome, answered, refused}
 use Rattle.sbr_writer.specs.Syntax.{gridBits}
+use Rattle.sbr_reader.specs.Read.{marksEnd}
 use Rattle.sbr_encoder.specs.Election.{Elected}
-use Rattle.sbr_run.specs.Run.{Turn, Sent, Turned, turn, Terms, Choosing, State, lastBorder, moved, after, counted, sent, OwnTurn, Turns, Run, stream, Chain}
+use Rattle.sbr_run.specs.Run.{Turn, Sent, Turned, turn, Terms, Choosing, State, lastBorder, moved, after, counted, sent, OwnTurn, Turns, Run, Frame, framesFrom, stream, Chain}
 use Rattle.sbr_run.specs.Readings.{Holds}
 use Rattle.sbr_run.specs.Term3.{Transmitted, SoundChoice}
 use Rattle.sbr_run.proofs.OneFrame.{calls, puts, Good, InReach, good-frame}
 
--- frames that a receiver can read, each from where the one before ended
-abbrev pub GoodChain : ℕ → ℕ → List Sent → ℕ → Type 0
-GoodChain n b [] e = e ≡ b
-GoodChain n b (f ∷ fs) e = Good n b f × GoodChain n (lastBorder (f .time)) fs e
+-- frames that a receiver can read, each from what the one before left; z has what the last one leaves
+abbrev pub GoodChain : ℕ → ℕ → Bool → List Sent → State → Type 0
+GoodChain n b a [] z = (z .border ≡ b) × (z .attack ≡ a)
+GoodChain n b a (f ∷ fs) z = Good n b f × GoodChain n (lastBorder (f .time)) (marksEnd (f .grid) (f .time)) fs z
 
-pub chain-of : (n b : ℕ) (fs : List Sent) (e : ℕ) → GoodChain n b fs e → Chain n b fs e
-chain-of n b [] e c = c
-chain-of n b (f ∷ fs) e c = (c .0 .frame-meets, chain-of n (lastBorder (f .time)) fs e (c .1))
+pub chain-of : (n b : ℕ) (a : Bool) (fs : List Sent) (z : State) → GoodChain n b a fs z → Chain n b fs (z .border)
+chain-of n b a [] z c = c .0
+chain-of n b a (f ∷ fs) z c = (c .0 .frame-meets, chain-of n (lastBorder (f .time)) (marksEnd (f .grid) (f .time)) fs z (c .1))
+
+-- from a clear flag they leave it clear, and none begins on an attack
+chain-clear : (n b : ℕ) (a : Bool) (fs : List Sent) (z : State) → GoodChain n b a fs z → a ≡ false → z .attack ≡ false
+chain-clear n b a [] z c e = c .1 ∙ e
+chain-clear n b a (f ∷ fs) z c e = chain-clear n (lastBorder (f .time)) (marksEnd (f .grid) (f .time)) fs z (c .1) (c .0 .clear)
+
+chain-begins : (r : Terms) (n b : ℕ) (a : Bool) (fs : List Sent) (z : State) → GoodChain n b a fs z → a ≡ false
+    → map (λ (f : Frame). f .beginsOnAttack) (framesFrom r a fs) ≡ replicate (length fs) false
+chain-begins r n b a [] z c e = refl
+chain-begins r n b a (f ∷ fs) z c e =
+    let rest = chain-begins r n (lastBorder (f .time)) (marksEnd (f .grid) (f .time)) fs z (c .1) (c .0 .clear) in
+    λ i. e i ∷ rest i
 
 -- the frames' bits one after another from the first position, and every other bit as it was
 pub record Left (n : ℕ) (s z : State) (fs : List Sent) : Type 0 where
-  pub chain : GoodChain n (s .border) fs (z .border)
+  pub chain : GoodChain n (s .border) (s .attack) fs z
   pub ends : z .position ≡ s .position + length (stream fs)
   pub bytes : z .bytes ≡ putBits (s .bytes) (s .position) (stream fs)
   pub fits : 0 < length fs → (s .position + length (stream fs) ≤ 8 * length (s .bytes)) × (s .position + length (stream fs) < 2 ^ 64)
@@ -39,7 +52,7 @@ pub record Left (n : ℕ) (s z : State) (fs : List Sent) : Type 0 where
 -- a state that leaves no frame
 pub left-none : (n : ℕ) (s : State) → Left n s s []
 unfolding putBits
-left-none n s = record { chain = refl; ends = sym (add-zero (s .position)); bytes = refl; fits = λ h. absurd (omega arith) }
+left-none n s = record { chain = (refl, refl); ends = sym (add-zero (s .position)); bytes = refl; fits = λ h. absurd (omega arith) }
 
 -- the room of all frames, from that of the first and that of the others
 fit : (f : Sent) (fs : List Sent) (p len len′ : ℕ) → (p + length (gridBits (f .grid)) ≤ 8 * len) × (p + length (gridBits (f .grid)) < 2 ^ 64) → len′ ≡ len
@@ -51,7 +64,12 @@ fit f (g ∷ fs) p len len′ a e h = let k = h (omega arith) in omega (arith, k
 -- one frame more in front
 pub left-more : (n : ℕ) (s z : State) (f : Sent) (fs : List Sent) → Good n (s .border) f
     → (s .position + length (gridBits (f .grid)) ≤ 8 * length (s .bytes)) × (s .position + length (gridBits (f .grid)) < 2 ^ 64)
-    → Left n (record { border = lastBorder (f .time); position = s .position + length (gridBits (f .grid)); bytes = putBits (s .bytes) (s .position) (gridBits (f .grid)) }) z fs
+    → Left n (record {
+      border = lastBorder (f .time);
+      attack = marksEnd (f .grid) (f .time);
+      position = s .position + length (gridBits (f .grid));
+      bytes = putBits (s .bytes) (s .position) (gridBits (f .grid));
+    }) z fs
     → Left n s z (f ∷ fs)
 left-more n s z f fs g a w =
     let c = gridBits (f .grid) in
@@ -74,7 +92,7 @@ step By sound r s z t fs (answered a) i q own w =
     let position : a .wrote .position ≡ s .position + length c = p .position ∙ ap (λ (x : ℕ). x + length c) (own .position) in
     left-more (r .slots) s z (a .sent) fs (good-frame By sound r s t a i own q)
     (omega (arith, k .within, k .holds, own .position, ap length (own .bytes)))
-    (subst (λ (x : State). Left (r .slots) x z fs) (λ j. record { border = lastBorder (a .sent .time); position = position j; bytes = bytes j }) w)
+    (subst (λ (x : State). Left (r .slots) x z fs) (λ j. record { border = lastBorder (a .sent .time); attack = marksEnd (a .sent .grid) (a .sent .time); position = position j; bytes = bytes j }) w)
 
 -- what is carried stays within reach
 reach : (By : Choosing) → SoundChoice By → (r : Terms) (s : State) (t : Turn) (o : Outcome Turned) → InReach (r .slots) s → turn t ≡ o → OwnTurn By r s t o → InReach (r .slots) (moved s o)
@@ -111,11 +129,18 @@ holds-by n s z (f ∷ fs) w =
 pub run-left : (By : Choosing) → SoundChoice By → (r : Terms) (s : State) (ts : List Turn) → Run By r s ts → Left (r .slots) s (after s ts) (sent ts)
 run-left By sound r s ts u = transmit By sound r s ts (record { from = u .from; by = u .by }) (u .turns)
 
-pub written : (r : Terms) (s : State) (ts : List Turn) → Left (r .slots) s (after s ts) (sent ts) → Transmitted r s ts
-written r s ts w =
+-- the chain of a run, from a clear flag
+pub run-chain : (n : ℕ) (s z : State) (fs : List Sent) → s .attack ≡ false → Left n s z fs → GoodChain n (s .border) false fs z
+run-chain n s z fs e w = subst (λ (a : Bool). GoodChain n (s .border) a fs z) e (w .chain)
+
+pub written : (r : Terms) (s : State) (ts : List Turn) → s .attack ≡ false → Left (r .slots) s (after s ts) (sent ts) → Transmitted r s ts
+written r s ts clear w =
     let str = stream (sent ts) in
+    let c = run-chain (r .slots) s (after s ts) (sent ts) clear w in
     record {
-      chain = chain-of (r .slots) (s .border) (sent ts) (after s ts .border) (w .chain);
+      chain = chain-of (r .slots) (s .border) false (sent ts) (after s ts) c;
+      none-begins = chain-begins r (r .slots) (s .border) false (sent ts) (after s ts) c refl;
+      clear = chain-clear (r .slots) (s .border) false (sent ts) (after s ts) c refl;
       ends = w .ends;
       holds = holds-by (r .slots) s (after s ts) (sent ts) w;
       before = λ q k h. ap (λ (m : List ℕ). bitsAt m q k) (w .bytes) ∙ kept-before (s .bytes) (s .position) q k str h;
@@ -136,4 +161,4 @@ module _ (By By′ : Choosing) (within : (r : Terms) (previous : ℤ) (o : Outco
   turns-within r s (t ∷ ts) h = (own-within r s t (turn t) (h .0), turns-within r (moved s (turn t)) ts (h .1))
 
   pub run-within : (r : Terms) (s : State) (ts : List Turn) → Run By r s ts → Run By′ r s ts
-  run-within r s ts u = record { from = u .from; by = u .by; turns = turns-within r s ts (u .turns) }
+  run-within r s ts u = record { from = u .from; by = u .by; clear = u .clear; turns = turns-within r s ts (u .turns) }

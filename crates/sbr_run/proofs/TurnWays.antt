@@ -3,24 +3,23 @@ use mathlib.Core.Path.{_≡_, refl, sym, ap, _∙_}
 use mathlib.Core.Bool.{Bool}
 use Prim.Native.Nat.{ℕ, _-_, _≤_}
 use native.Mathlib.Omega.{arith}
-use lib.IntN.{ℤ, pos}
 use lib.ListN.{length, getD}
 use Rattle.sbr_grid.specs.declared.Refusal.{Refusal}
 use Rattle.sbr_grid.specs.declared.Answer.the-variants.{Given}
 use Rattle.sbr_grid.specs.declared.SbrGrid.{SbrGrid}
 use Rattle.sbr_grid.specs.Refusals.{Outcome, answered, refused}
 use Rattle.sbr_grid.specs.Grid.{Grid, numEnv, viewOf, recordOf}
-use Rattle.sbr_grid.proofs.First.{first-getD}
 use Rattle.sbr_grid.specs.declared.TimeGrid.{TimeGrid}
 use Rattle.sbr_time_grid.specs.declared.Derived.{Derived}
 use Rattle.sbr_grid.specs.Times.{Times, timeRecord}
 use Rattle.sbr_time_grid.specs.TimeGrid.{timeGrid, derivedOf}
-use Rattle.sbr_grid.proofs.Slots.{slots-few}
-use Rattle.sbr_time_grid.proofs.Ends.{time-ends, time-passes}
+use Rattle.sbr_time_grid.proofs.Ends.{time-ends}
 use Rattle.sbr_writer.specs.declared.Written.the-variants.{To, Refused as NotWritten}
 use Rattle.sbr_writer.specs.Write.{Wrote, writeGrid, writtenOf}
 use Rattle.sbr_reader.specs.declared.FrameRead.{FrameRead}
-use Rattle.sbr_reader.specs.Read.{Accepted, frameReadOf}
+use Rattle.sbr_reader.specs.declared.Carried.{Carried}
+use Rattle.sbr_reader.specs.Read.{Accepted, marksEnd, carrying, leftBy, frameReadOf}
+use Rattle.sbr_reader.proofs.ReadLaws.{leaving}
 use Rattle.sbr_grid.proofs.Outcomes.{given-is}
 use Rattle.sbr_encoder.specs.declared.Election.{Election}
 use Rattle.sbr_encoder.specs.Election.{Elected, electionOf}
@@ -78,30 +77,28 @@ chosen n lead c r sound e g =
       time = (s .sound .time, s .sound .derived);
     }
 
--- the last border of a time grid t, in its record r
-pub record Last (t : Times) (r : TimeGrid) : Type 0 where
-  pub few : r .«num_env» ≤ 5
-  pub is : getD (r .«t_e») (r .«num_env») 0 ≡ lastBorder t
-  pub small : lastBorder t ≤ 255
-
-last-of : (n : ℕ) (g : Grid) (t : Times) (r : TimeGrid) → timeGrid n g ≡ answered t → r ≡ timeRecord t → Last t r
-last-of n g t r e w =
-    let m = time-ends n g t e in
-    let s = slots-few n (time-passes n g t e .slots) in
-    let l : lastBorder t ≡ getD (t .tE) (numEnv g) 0 = ap (λ (i : ℕ). getD (t .tE) i 0) (omega arith) in
-    rw w (record { few = omega arith; is = first-getD 0 6 (length (t .tE) - 1) (t .tE) (omega arith); small = omega arith })
-
--- the time grid of a record
+-- the time grid of a record, and what it leaves
 pub record Timed (n : ℕ) (g : Grid) (d : Derived) : Type 0 where
   pub time : Times
   pub is : timeGrid n g ≡ answered time
   pub whole : d .time ≡ timeRecord time
-  pub last : Last time (d .time)
+  pub few : d .time .«num_env» ≤ 5
+  pub small : getD (d .time .«t_e») (d .time .«num_env») 0 ≤ 255
+  pub left : leftBy (d .time) ≡ carrying (lastBorder time) (marksEnd g time)
 
 pub timed : (n : ℕ) (g : Grid) (d : Derived) (t : Times) → timeGrid n g ≡ answered t → d ≡ derivedOf (timeGrid n g) → Timed n g d
 timed n g d t h e =
     let w : d .time ≡ timeRecord t = ap (λ (x : Derived). x .time) (e ∙ ap derivedOf h) in
-    record { time = t; is = h; whole = w; last = last-of n g t (d .time) h w }
+    let l = leaving n g t h in
+    let k : numEnv g ≡ length (t .tE) - 1 = omega (arith, time-ends n g t h .count) in
+    record {
+      time = t;
+      is = h;
+      whole = w;
+      few = rw w (l .few);
+      small = rw w (l .small);
+      left = ap leftBy w ∙ l .is ∙ ap (λ (i : ℕ). carrying (getD (t .tE) i 0) (marksEnd g t)) k;
+    }
 
 -- a write that hands out a position
 pub wrote-to : (o : Outcome Wrote) (q : ℕ) → writtenOf o ≡ To q → (w : Wrote) × (o ≡ answered w) × (q ≡ w .position)
@@ -116,14 +113,20 @@ wrote-not (refused w) r e = cc
 -- ---- what the program hands out
 
 -- for a frame that is sent
-pub sent-is : (p : Place) (a : Turned) (g : SbrGrid) (t : TimeGrid) (b : Bool) (z : ℤ) (q : ℕ)
-    → g ≡ recordOf (a .sent .grid) → t ≡ timeRecord (a .sent .time) → b ≡ a .transient → z ≡ pos (lastBorder (a .sent .time)) → q ≡ a .wrote .position
-    → _≡_ {A = Sending} (record { answer = Given; grid = g; time = t; transient = b; place = record { carried = record { border = z }; position = q } }) (sendingOf p (answered a))
+pub sent-is : (p : Place) (a : Turned) (g : SbrGrid) (t : TimeGrid) (b : Bool) (z : Carried) (q : ℕ)
+    → g ≡ recordOf (a .sent .grid) → t ≡ timeRecord (a .sent .time) → b ≡ a .transient → z ≡ carrying (lastBorder (a .sent .time)) (marksEnd (a .sent .grid) (a .sent .time)) → q ≡ a .wrote .position
+    → _≡_ {A = Sending} (record { answer = Given; grid = g; time = t; transient = b; place = record { carried = z; position = q } }) (sendingOf p (answered a))
 sent-is p a g t b z q c d e f h = rw (c, d, e, f, h)
 
 -- for a reading
 abbrev pub received : FrameRead → Receiving
-received r = record { answer = r .answer; grid = r .grid; time = r .time; place = record { carried = r .carried; position = r .position } }
+received r = record {
+  answer = r .answer;
+  grid = r .grid;
+  time = r .time;
+  «begins_on_attack» = r .«begins_on_attack»;
+  place = record { carried = r .carried; position = r .position };
+}
 
 pub received-is : (p : Place) (o : Outcome Accepted) → received (frameReadOf (p .position) (p .carried) o) ≡ receivingOf p o
 received-is p (answered f) = refl

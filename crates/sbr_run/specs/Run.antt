@@ -1,7 +1,7 @@
 -- A transmitter's run: docs/ORDER.md, T3. The calls are those of the public contracts: `elect`, `timeGrid`, `writeGrid`.
 -- The call that chooses a turn's record is a parameter of the run. That of term 3 is the election, `Elects`.
 use mathlib.Core.Path.{_≡_}
-use mathlib.Core.Bool.{Bool}
+use mathlib.Core.Bool.{Bool, false}
 use mathlib.Core.List.{List, [], _∷_, _++_}
 use Prim.Native.Nat.{ℕ, _+_, _-_, _≤_}
 use lib.IntN.{ℤ, pos}
@@ -9,11 +9,12 @@ use lib.ListN.{length, getD}
 use lib.Ieee.{Float}
 use Rattle.sbr_grid.specs.declared.FrameClass.{FrameClass}
 use Rattle.sbr_grid.specs.Refusals.{Outcome, answered, refused}
-use Rattle.sbr_grid.specs.Grid.{Grid}
-use Rattle.sbr_grid.specs.Times.{Times}
+use Rattle.sbr_grid.specs.Grid.{Grid, numEnv}
+use Rattle.sbr_grid.specs.Times.{Times, isNumber}
 use Rattle.sbr_time_grid.specs.TimeGrid.{timeGrid}
 use Rattle.sbr_writer.specs.Syntax.{gridBits}
 use Rattle.sbr_writer.specs.Write.{Wrote, writeGrid}
+use Rattle.sbr_reader.specs.Read.{marksEnd}
 use Rattle.sbr_envelopes.specs.Envelopes.{rowLengths}
 use Rattle.sbr_encoder.specs.Election.{Elected, elect}
 
@@ -70,9 +71,10 @@ pub record Elects (r : Terms) (previous : ℤ) (o : Outcome Elected) : Type 0 wh
 
 -- ---- lists of turns
 
--- what is carried from turn to turn: border, position and bytes
+-- what is carried from turn to turn: border, the flag beside it, position and bytes
 pub record State : Type 0 where
   pub border : ℕ
+  pub attack : Bool
   pub position : ℕ
   pub bytes : List ℕ
 
@@ -82,10 +84,15 @@ firstBorder t = getD (t .tE) 0 0
 abbrev pub lastBorder : Times → ℕ
 lastBorder t = getD (t .tE) (length (t .tE) - 1) 0
 
--- where all calls answer, the frame's last border is carried and the writer's position and bytes are kept; else nothing moves
+-- where all calls answer, the frame's last border is carried, with whether an attack is marked at its very end, and the writer's position and bytes are
+-- kept; else nothing moves
 abbrev pub moved : State → Outcome Turned → State
-moved s (answered a) =
-    record { border = lastBorder (a .sent .time); position = a .wrote .position; bytes = a .wrote .bytes }
+moved s (answered a) = record {
+  border = lastBorder (a .sent .time);
+  attack = marksEnd (a .sent .grid) (a .sent .time);
+  position = a .wrote .position;
+  bytes = a .wrote .bytes;
+}
 moved s (refused e) = s
 
 abbrev pub after : State → List Turn → State
@@ -118,15 +125,16 @@ abbrev pub Turns : Choosing → Terms → State → List Turn → Type 0
 Turns By r s [] = Unit {0}
 Turns By r s (t ∷ ts) = OwnTurn By r s t (turn t) × Turns By r (moved s (turn t)) ts
 
--- a run starts with a carried border from N to N + 3, any position and any bytes
+-- a run starts with a carried border from N to N + 3, the flag clear, any position and any bytes
 pub record Run (By : Choosing) (r : Terms) (s : State) (ts : List Turn) : Type 0 where
   pub from : r .slots ≤ s .border
   pub by : s .border ≤ r .slots + 3
+  pub clear : s .attack ≡ false
   pub turns : Turns By r s ts
 
 -- ---- frames and the stream
 
--- a frame, sent or read: the six respects in which term 3 says that they are alike
+-- a frame, sent or read: the seven respects in which term 3 says that they are alike
 pub record Frame : Type 0 where
   pub class : FrameClass
   pub borders : List ℕ
@@ -134,18 +142,31 @@ pub record Frame : Type 0 where
   pub mark : ℤ
   pub resolutions : List Bool
   pub rows : List ℕ
+  pub beginsOnAttack : Bool
 
 -- class and resolutions of the record, borders, noise borders and mark of its time grid; a row length for each envelope: the entries of the table of its
--- resolution, less 1
-abbrev pub frameOf : Terms → Sent → Frame
-frameOf r f = record {
-  class = f .grid .frameClass;
-  borders = f .time .tE;
-  noise = f .time .tQ;
-  mark = f .time .lA;
-  resolutions = f .grid .freqRes;
-  rows = rowLengths (length (r .high) - 1) (length (r .low) - 1) (f .grid .freqRes);
+-- resolution, less 1; and whether it begins on an attack
+abbrev pub frameOf : Terms → Grid → Times → Bool → Frame
+frameOf r g t begins = record {
+  class = g .frameClass;
+  borders = t .tE;
+  noise = t .tQ;
+  mark = t .lA;
+  resolutions = g .freqRes;
+  rows = rowLengths (length (r .high) - 1) (length (r .low) - 1) (g .freqRes);
+  beginsOnAttack = begins;
 }
+
+-- frames sent, of which the first begins on an attack where `begins` says so, each other one where the mark of the one before it is that one's envelope
+-- count
+abbrev pub framesFrom : Terms → Bool → List Sent → List Frame
+framesFrom r begins [] = []
+framesFrom r begins (f ∷ fs) =
+    frameOf r (f .grid) (f .time) begins ∷ framesFrom r (isNumber (f .time .lA) (numEnv (f .grid))) fs
+
+-- the frames of a run: the first does not begin on one
+abbrev pub framesSent : Terms → List Sent → List Frame
+framesSent r fs = framesFrom r false fs
 
 -- the frames' sbr_grid() one after another
 abbrev pub stream : List Sent → List Bool

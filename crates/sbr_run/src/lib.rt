@@ -7,15 +7,15 @@ use sbr_reader::Carried;
 use sbr_writer::Written;
 ghost use mathlib.Core.Path.{_≡_};
 ghost use Prim.Native.Nat.{_≤_};
-ghost use lib.IntN.{pos};
 ghost use lib.ListN.{getD};
 ghost use Rattle.sbr_grid.specs.declared.Answer.the-variants.{Given};
 ghost use Rattle.sbr_grid.specs.Refusals.{refused, Leaves};
+ghost use Rattle.sbr_reader.specs.Read.{leftBy};
 ghost use Rattle.sbr_run.specs.Run.{turn};
 ghost use Rattle.sbr_run.specs.Readings.{reading};
 ghost use Rattle.sbr_run.specs.Place.{turnFrom, sendingOf, bytesLeft, readingFrom, receivingOf};
 
-// What is carried from frame to frame: the last border, and the bit position.
+// What is carried from frame to frame: the last border with the flag beside it, and the bit position.
 pub struct Place {
     pub carried: Carried,
     pub position: usize,
@@ -34,6 +34,8 @@ pub struct Receiving {
     pub answer: Answer,
     pub grid: SbrGrid,
     pub time: TimeGrid,
+    // Whether the frame begins on an attack.
+    pub begins_on_attack: bool,
     pub place: Place,
 }
 
@@ -49,32 +51,18 @@ fn refusal(why: Refusal, place: Place) -> Sending
     }
 }
 
-// The last border of a time grid.
-fn last_border(time: TimeGrid) -> i32
-    requires { ⌜ (time .«num_env» ≤ 5) × (getD (time .«t_e») (time .«num_env») 0 ≤ 255) ⌝ }
-    ensures { λ r. ⌜ r ≡ pos (getD (time .«t_e») (time .«num_env») 0) ⌝ }
-{
-    let t_e = time.t_e;
-    let last = time.num_env;
-    t_e[last] as i32
-}
-
 // What is handed out for a frame that was written up to a position.
 fn sent(grid: SbrGrid, time: TimeGrid, transient: bool, position: usize) -> Sending
     requires { ⌜ (time .«num_env» ≤ 5) × (getD (time .«t_e») (time .«num_env») 0 ≤ 255) ⌝ }
-    ensures { λ r. ⌜ r ≡ record { answer = Given; grid = grid; time = time; transient = transient; place = record { carried = record { border = pos (getD (time .«t_e») (time .«num_env») 0) }; position = position } } ⌝ }
+    ensures { λ r. ⌜ r ≡ record { answer = Given; grid = grid; time = time; transient = transient; place = record { carried = leftBy time; position = position } } ⌝ }
 {
+    let carried = Carried::left_by(time);
     Sending {
         answer: Answer::Given,
         grid,
         time,
         transient,
-        place: Place {
-            carried: Carried {
-                border: last_border(time),
-            },
-            position,
-        },
+        place: Place { carried, position },
     }
 }
 
@@ -131,6 +119,7 @@ pub fn receive_frame(bytes: &[u8], num_time_slots: usize, place: Place) -> Recei
         answer,
         grid,
         time,
+        begins_on_attack: read.begins_on_attack,
         place: Place {
             carried: next,
             position: read.position,

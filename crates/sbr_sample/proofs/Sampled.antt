@@ -5,7 +5,7 @@ use mathlib.Core.List.{List, [], _∷_, map}
 use Prim.Native.Nat.{ℕ, _<_}
 use native.Mathlib.Omega.{arith}
 use lib.IntN.{ℤ, pos, negsuc}
-use lib.ListN.{length, take, getD, length-map}
+use lib.ListN.{length, take, getD}
 use lib.Seq.{take-length}
 use lib.Ieee as Ieee
 use lib.Ieee.{ofBits}
@@ -31,9 +31,10 @@ use Rattle.sbr_build.specs.Build.{fixfixGrid}
 use Rattle.sbr_attack.specs.Attack.{lateAttackVarvar, fixvarSegs, varfixSegs, fixvarGrid, varfixGrid, variableGrid, segmentsBy}
 use Rattle.sbr_choice.specs.Choice.{attackGrid, plainGrid, chosenGrid}
 use Rattle.sbr_encoder.specs.Election.{elect}
-use Rattle.sbr_run.specs.Run.{Turn, Sent, Turned, Terms, State, Elects, turn, after, sent, HandsIn, Run, Frame, frameOf}
-use Rattle.sbr_run.specs.Readings.{Reading, listened, read, Readings}
+use Rattle.sbr_run.specs.Run.{Turn, Turned, Terms, State, Elects, turn, after, sent, HandsIn, Run, Frame, framesSent}
+use Rattle.sbr_run.specs.Readings.{Reading, tunedAt, listened, read, frameRead, Readings}
 use Rattle.sbr_run.specs.Term3.{ReadBack, Apart}
+use Rattle.sbr_run.proofs.Receive.{length-frames}
 use Rattle.sbr_run.proofs.Term3.{term3}
 use Rattle.sbr_sample.specs.Sample.{loudFrom, terms, turnAt, start, afterOne, afterTwo, end, turns, frames, readings, otherTurns, tuned, Sample}
 
@@ -63,29 +64,30 @@ outcomes = record { one = refl; two = refl; three = refl; four = refl; five = re
 -- ---- what term 3 says of a run whose end is known
 
 module _ (r : Terms) (s e : State) (ts : List Turn) (run : Run Elects r s ts) (ends : after s ts ≡ e) (rs : List Reading)
-    (own : Readings (r .slots) (e .bytes) (record { border = s .border; position = s .position }) rs) where
+    (own : Readings (r .slots) (e .bytes) (tunedAt (s .border) (s .position)) rs) where
   -- the bytes that the run left hold its stream
-  back : ReadBack r (sent ts) (s .border) (e .border) (e .bytes) (s .position) rs
+  back : ReadBack r (sent ts) (s .border) e (e .bytes) (s .position) rs
   back =
       subst
-      (λ (z : State). Readings (r .slots) (z .bytes) (record { border = s .border; position = s .position }) rs
-      → ReadBack r (sent ts) (s .border) (z .border) (z .bytes) (s .position) rs)
+      (λ (z : State). Readings (r .slots) (z .bytes) (tunedAt (s .border) (s .position)) rs
+      → ReadBack r (sent ts) (s .border) z (z .bytes) (s .position) rs)
       ends (term3 .read-back r s ts run (after s ts .bytes) (s .position) (term3 .transmitted r s ts run .holds) rs) own
 
-  module _ (fs : List Frame) (sends : map (frameOf r) (sent ts) ≡ fs) (all : length (read rs) ≡ length fs) where
+  module _ (fs : List Frame) (sends : framesSent r (sent ts) ≡ fs) (all : length (read rs) ≡ length fs) where
     -- as many readings answer as frames were sent
     same-count : length (read rs) ≡ length (sent ts)
-    same-count = all ∙ ap length (sym sends) ∙ length-map (sent ts) (frameOf r)
+    same-count = all ∙ ap length (sym sends) ∙ length-frames r false (sent ts)
 
-    frames-read : map (frameOf r) (read rs) ≡ fs
+    frames-read : map (frameRead r) (read rs) ≡ fs
     frames-read = back .in-order (omega (arith, same-count)) ∙ ap (take (length (read rs))) sends ∙ rw all (take-length fs)
 
-    place-left : listened (record { border = s .border; position = s .position }) rs ≡ record { border = e .border; position = e .position }
+    place-left : listened (tunedAt (s .border) (s .position)) rs ≡ record { border = e .border; attack = e .attack; position = e .position }
     place-left =
-        let b : listened (record { border = s .border; position = s .position }) rs .border ≡ e .border = back .border same-count in
-        let p : listened (record { border = s .border; position = s .position }) rs .position ≡ e .position =
+        let p : listened (tunedAt (s .border) (s .position)) rs .position ≡ e .position =
         back .position same-count ∙ sym (term3 .transmitted r s ts run .ends) ∙ ap (λ (z : State). z .position) ends in
-        λ i. record { border = b i; position = p i }
+        let b = back .border same-count in
+        let a = back .attack same-count in
+        λ i. record { border = b i; attack = a i; position = p i }
 
 -- ---- the sample
 
@@ -96,12 +98,13 @@ runs =
     record {
       from = omega arith;
       by = omega arith;
+      clear = refl;
       turns =
           rw (o .one) (rw (o .two) (rw (o .three) (rw (o .four) (rw (o .five)
           (hands 24 start, (tt, (hands 15 afterOne, (hands 10 afterTwo, (tt, tt)))))))));
     }
 
-sends : map (frameOf terms) (sent turns) ≡ frames
+sends : framesSent terms (sent turns) ≡ frames
 sends = let o = outcomes in rw (o .one) (rw (o .two) (rw (o .three) (rw (o .four) (rw (o .five) refl))))
 
 ends : after start turns ≡ end
@@ -109,7 +112,7 @@ ends = let o = outcomes in rw (o .one) (rw (o .two) (rw (o .three) (rw (o .four)
 
 other-run : Run Elects terms afterOne otherTurns
 other-run =
-    record { from = omega arith; by = omega arith; turns = rw (outcomes .three) (hands 15 afterOne, tt) }
+    record { from = omega arith; by = omega arith; clear = refl; turns = rw (outcomes .three) (hands 15 afterOne, tt) }
 
 -- what is computed of the readings
 record Heard : Type 0 where
@@ -125,13 +128,13 @@ heard = record { all = (refl, (tt, (refl, (tt, (refl, (tt, tt)))))); some = (ref
 -- ---- two runs
 
 -- a frame for places that a list does not have
-noFrame : Sent
-noFrame = record { grid = made FixFix 0 [] 0 0 [] [] 0 false; time = times [] [] (negsuc 0) }
+noFrame : Frame
+noFrame = record { class = FixFix; borders = []; noise = []; mark = negsuc 0; resolutions = []; rows = []; beginsOnAttack = false }
 
-first-sent : frameOf terms (getD (sent turns) 0 noFrame) .class ≡ FixFix
+first-sent : getD (framesSent terms (sent turns)) 0 noFrame .class ≡ FixFix
 first-sent = rw (outcomes .one) refl
 
-other-sent : (0 < length (sent otherTurns)) × (frameOf terms (getD (sent otherTurns) 0 noFrame) .class ≡ FixVar)
+other-sent : (0 < length (sent otherTurns)) × (getD (framesSent terms (sent otherTurns)) 0 noFrame .class ≡ FixVar)
 other-sent = rw (outcomes .three) (omega arith, refl)
 
 streams-apart : length (sent turns) ≡ 3 → Apart turns otherTurns
@@ -142,7 +145,7 @@ streams-apart many =
 pub sampled : Sample
 sampled =
     let h = heard in
-    let many : length (sent turns) ≡ 3 = sym (length-map (sent turns) (frameOf terms)) ∙ ap length sends in
+    let many : length (sent turns) ≡ 3 = sym (length-frames terms false (sent turns)) ∙ ap length sends in
     record {
       runs = runs;
       sends = sends;

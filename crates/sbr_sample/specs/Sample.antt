@@ -11,8 +11,9 @@ use Rattle.sbr_grid.specs.declared.Refusal.{Refusal}
 use Rattle.sbr_grid.specs.Refusals.{refused}
 use Rattle.sbr_floats.specs.Floats.{zero64}
 use Rattle.sbr_encoder.specs.Election.{elect}
-use Rattle.sbr_run.specs.Run.{Turn, Terms, Elects, State, after, sent, Run, Frame, frameOf}
-use Rattle.sbr_run.specs.Readings.{Reading, Receiver, reading, listened, read, inTerms, Readings}
+use Rattle.sbr_reader.specs.Read.{carrying}
+use Rattle.sbr_run.specs.Run.{Turn, Terms, Elects, State, after, sent, Run, Frame, framesSent}
+use Rattle.sbr_run.specs.Readings.{Reading, Receiver, tunedAt, reading, listened, read, frameRead, inTerms, Readings}
 use Rattle.sbr_run.specs.Term3.{Apart}
 
 -- ---- samples
@@ -52,16 +53,16 @@ turnAt n s c = record {
 
 -- what is carried: at the start, after each frame and at the end
 abbrev pub start : State
-start = record { border = 16; position = 3; bytes = 0 ∷ 0 ∷ 0 ∷ 0 ∷ 0 ∷ [] }
+start = record { border = 16; attack = false; position = 3; bytes = 0 ∷ 0 ∷ 0 ∷ 0 ∷ 0 ∷ [] }
 
 abbrev pub afterOne : State
-afterOne = record { border = 16; position = 8; bytes = 1 ∷ 0 ∷ 0 ∷ 0 ∷ 0 ∷ [] }
+afterOne = record { border = 16; attack = false; position = 8; bytes = 1 ∷ 0 ∷ 0 ∷ 0 ∷ 0 ∷ [] }
 
 abbrev pub afterTwo : State
-afterTwo = record { border = 18; position = 23; bytes = 1 ∷ 104 ∷ 48 ∷ 0 ∷ 0 ∷ [] }
+afterTwo = record { border = 18; attack = false; position = 23; bytes = 1 ∷ 104 ∷ 48 ∷ 0 ∷ 0 ∷ [] }
 
 abbrev pub end : State
-end = record { border = 16; position = 38; bytes = 1 ∷ 104 ∷ 49 ∷ 86 ∷ 100 ∷ [] }
+end = record { border = 16; attack = false; position = 38; bytes = 1 ∷ 104 ∷ 49 ∷ 86 ∷ 100 ∷ [] }
 
 -- silence; refused, by the slot count 17; loud from slot 15 on; loud from slot 10 on; silence, refused since it has no room
 abbrev pub turns : List Turn
@@ -70,7 +71,15 @@ turns = turnAt 16 24 start ∷ turnAt 17 24 afterOne ∷ turnAt 16 15 afterOne �
 -- the frames that are sent
 abbrev pub frames : List Frame
 frames =
-    record { class = FixFix; borders = 0 ∷ 16 ∷ []; noise = 0 ∷ 16 ∷ []; mark = negsuc 0; resolutions = true ∷ []; rows = 2 ∷ [] }
+    record {
+      class = FixFix;
+      borders = 0 ∷ 16 ∷ [];
+      noise = 0 ∷ 16 ∷ [];
+      mark = negsuc 0;
+      resolutions = true ∷ [];
+      rows = 2 ∷ [];
+      beginsOnAttack = false;
+    }
     ∷ record {
       class = FixVar;
       borders = 0 ∷ 14 ∷ 16 ∷ 18 ∷ [];
@@ -78,6 +87,7 @@ frames =
       mark = pos 1;
       resolutions = false ∷ false ∷ false ∷ [];
       rows = 1 ∷ 1 ∷ 1 ∷ [];
+      beginsOnAttack = false;
     }
     ∷ record {
       class = VarFix;
@@ -86,13 +96,14 @@ frames =
       mark = pos 2;
       resolutions = false ∷ false ∷ true ∷ [];
       rows = 1 ∷ 1 ∷ 2 ∷ [];
+      beginsOnAttack = false;
     }
     ∷ []
 
 -- ---- readings
 
 abbrev pub readingAt : ℕ → ℕ → ℕ → Reading
-readingAt n b p = record { bytes = end .bytes; position = p; slots = n; border = pos b }
+readingAt n b p = record { bytes = end .bytes; position = p; slots = n; carried = carrying b false }
 
 -- the first frame; refused, by the slot count 17; the second; refused, since it does not meet the border 16; the third; refused, since the bits end
 abbrev pub readings : List Reading
@@ -108,19 +119,19 @@ otherTurns = turnAt 16 15 afterOne ∷ []
 
 -- where the receiver begins
 abbrev pub tuned : Receiver
-tuned = record { border = 16; position = 3 }
+tuned = tunedAt 16 3
 
 pub record Sample : Type 0 where
   -- computed: a run, what it sends and leaves; readings in its terms, of which three answer; a second run
   pub runs : Run Elects terms start turns
-  pub sends : map (frameOf terms) (sent turns) ≡ frames
+  pub sends : framesSent terms (sent turns) ≡ frames
   pub ends : after start turns ≡ end
   pub listens : Readings 16 (end .bytes) tuned readings
   pub counts : length (read readings) ≡ 3
   pub runs-too : Run Elects terms afterOne otherTurns
-  -- by term 3, whose hypotheses these meet: the readings give the frames sent and leave the transmitter's border and position; after two readings the
-  -- next one is not refused; neither run's stream begins the other's
-  pub reads : map (frameOf terms) (read readings) ≡ frames
-  pub hears : listened tuned readings ≡ record { border = end .border; position = end .position }
+  -- by term 3, whose hypotheses these meet: the readings give the frames sent and leave the transmitter's border, flag and position; after two readings
+  -- the next one is not refused; neither run's stream begins the other's
+  pub reads : map (frameRead terms) (read readings) ≡ frames
+  pub hears : listened tuned readings ≡ record { border = end .border; attack = end .attack; position = end .position }
   pub unread : (e : Refusal) → reading (inTerms 16 (end .bytes) (listened tuned (take 2 readings))) ≡ refused e → ⊥
   pub apart : Apart turns otherTurns

@@ -15,6 +15,7 @@ use Rattle.sbr_run.specs.Run.{Turn, turn}
 use Rattle.sbr_run.specs.Place.{turnFrom, sendingOf, bytesLeft}
 use Rattle.c_values.proofs.Answers.{gives-refused, gives-coded, gives-answered}
 use Rattle.c_bits.specs.Calls.{slotted}
+use Rattle.c_send.specs.Turns.{placeIn}
 use Rattle.c_send.proofs.Sendings.{send-code, not-sent, sent-few, has-sent}
 use Rattle.c_send.proofs.send_frame.Statement.{statement}
 use Rattle.c_send.proofs.send_frame.Tie as tie
@@ -28,7 +29,7 @@ slots-so c = sym (c .before .is-slot-count .ensures) ∙ not-false _ (c .if1 .le
 
 -- the place that was handed in, and the turn
 abbrev place : tie.Else2 → Place
-place c = let a = start (c .before) .args in record { carried = record { border = a .border .now }; position = a .position .now }
+place c = let a = start (c .before) .args in placeIn (a .border .now) (a .position .now)
 
 abbrev turn-at : tie.Else2 → Turn
 turn-at c =

@@ -3,11 +3,8 @@ use Rattle.run_lines.proofs.Numbers.{frame-whole}
 use Rattle.run_lines.proofs.frame_number.Statement.{statement}
 use Rattle.run_lines.proofs.frame_number.Tie as tie
 
-to-bits-requires : tie.Need-to-bits-requires
-to-bits-requires c κs = search needs
-
-cast-with-digit : tie.Need-cast-with-digit
-cast-with-digit c = search needs
+kind-number-requires : tie.Need-kind-number-requires
+kind-number-requires c κs = search needs
 
 resolutions-number-requires : tie.Need-resolutions-number-requires
 resolutions-number-requires c κs = search needs
@@ -38,7 +35,7 @@ with-digit-requires-3 c κs = search needs
 
 returns : tie.Need-returns
 returns c =
-    frame-whole _ _ _ _ _ _ _ _ _ _ (c .before .before .before .before .before .before .before .before .before .before .to-bits .ensures) (c .before .before .before .before .before .before .before .before .before .resolutions-number .ensures)
+    frame-whole _ _ _ _ _ _ _ _ _ _ _ (c .before .before .before .before .before .before .before .before .before .before .kind-number .ensures) (c .before .before .before .before .before .before .before .before .before .resolutions-number .ensures)
     (c .before .before .before .before .before .before .before .before .with-digit .ensures) (c .before .before .before .before .before .before .before .with-digit2 .ensures) (c .before .before .before .before .before .with-borders .ensures) (c .before .before .before .with-borders2 .ensures)
     (record { sfits = c .before .before .struct-told .given .1 .1 .1 .1 .0 .1 }) (c .before .mark-number .ensures) (c .with-digit3 .ensures)
 
@@ -46,8 +43,7 @@ pub frame-number-spec : {M : Type 1} → statement M
 frame-number-spec =
     tie.close
     (tie.spec
-    to-bits-requires
-    cast-with-digit
+    kind-number-requires
     resolutions-number-requires
     with-digit-requires
     with-digit-requires-2

@@ -8,7 +8,7 @@ use Rattle.sbr_list.proofs.frames.Tie as tie
 
 abbrev Inv-loop : tie.InvT-loop
 Inv-loop bits slots count page₀ at₀ position₀ carried₀ i₀ page at position carried i =
-    Reached bits slots count (carried₀ .border) page₀ page at position carried i
+    Reached bits slots count carried₀ page₀ page at position carried i
 
 abbrev μ-loop : tie.MeasureT-loop
 μ-loop bits slots count page₀ at₀ position₀ carried₀ i₀ page at position carried i = count - i

@@ -1,35 +1,33 @@
 -- `sbr_reader::read_grid` meets its contract.
 use mathlib.Core.List.{List}
 use mathlib.Core.Bool.{Bool, true}
-use mathlib.Core.Path.{_≡_, sym, ap, _∙_}
+use mathlib.Core.Path.{_≡_, refl, sym, ap, _∙_}
 use Prim.Native.Nat.{ℕ, _+_, _-_, _≤_, _<_}
 use native.Mathlib.Omega.{arith}
 use borrow.Author.Tests.{not-true, not-false}
 use borrow.Author.Needs.{needs}
-use lib.IntN.{ℤ, pos}
 use lib.ListN.{length, getD}
 use Rattle.bits.specs.Room.{endOf, windowOf}
 use Rattle.bits.proofs.Numbers.{length-bitsOf}
 use Rattle.bits.specs.declared.Window.{Window}
 use Rattle.sbr_grid.proofs.First.{first-getD}
-use Rattle.sbr_grid.specs.Grid.{Grid, numEnv, viewOf}
+use Rattle.sbr_grid.specs.Grid.{Grid, viewOf}
 use Rattle.sbr_grid.specs.Refusals.{answered}
 use Rattle.sbr_time_grid.proofs.Ends.{Ends, time-ends}
 use Rattle.sbr_grid.proofs.Slots.{slots-few}
-use Rattle.sbr_grid.specs.Times.{Times, slotCount}
+use Rattle.sbr_grid.specs.Times.{Times, isNumber, slotCount, timeRecord}
 use Rattle.sbr_time_grid.specs.TimeGrid.{timeGrid, derivedOf}
 use Rattle.sbr_time_grid.specs.declared.Derived.{Derived}
-use Rattle.sbr_reader.specs.Read.{isBorder, readGrid}
+use Rattle.sbr_reader.specs.Read.{readGrid, leftBy}
 use Rattle.sbr_parse.specs.Parse.{parsedOf, windowBits}
 use Rattle.sbr_parse.specs.Syntax.{sbrGrid}
 use Rattle.sbr_parse.specs.declared.Parsed.{Parsed}
 use Rattle.sbr_reader.specs.Read
-use Rattle.sbr_reader.proofs.ReadLaws.{window-good, read-slots, read-bits, read-record, meets-not, frameOf, meets-so, read-view, read-left, read-given}
+use Rattle.sbr_reader.proofs.ReadLaws.{window-good, read-slots, read-bits, read-record, meets-not, frameOf, meets-so, read-view, read-left, read-given, Leaving, leaving}
 use Rattle.sbr_grid.proofs.Outcomes.{refused-is, given-is}
 use Rattle.sbr_reader.proofs.read_grid.Statement.{statement}
 use Rattle.sbr_reader.proofs.read_grid.Tie as tie
-use mir.Val.{toZ, ofZ}
-use mir.ValLaws.{toZ-pos, toZ-ofZ}
+use mir.ValLaws.{toZ-ofZ}
 use mir.Syntax.{w32}
 
 -- the places before: what was parsed before it was told to be a record, that before the time grid was told, and the start
@@ -86,14 +84,13 @@ border c i h =
     ap (λ (x : Derived). getD (x .time .«t_e») i 0) (derived (c .before .before) ∙ ap derivedOf (timed c .1))
     ∙ first-getD 0 6 i (timed c .0 .tE) h
 
--- the count of envelopes that was parsed
-count : (c : tie.After-enum-told2) → window (told c) .sbr-grid .result .grid .«num_env» ≡ numEnv (got (told c) .0 .0)
-count c = ap (λ (x : Parsed). x .grid .«num_env») (parsed-is (told c))
+-- the time grid that was derived, whole
+derived-time : (c : tie.After-enum-told2) → c .before .before .derive-time-grid .result .time ≡ timeRecord (timed c .0)
+derived-time c = ap (λ (x : Derived). x .time) (derived (c .before .before) ∙ ap derivedOf (timed c .1))
 
--- the last border
-last : (c : tie.After-enum-told2) → getD (c .before .before .derive-time-grid .result .time .«t_e») (window (told c) .sbr-grid .result .grid .«num_env») 0
-    ≡ getD (timed c .0 .tE) (numEnv (got (told c) .0 .0)) 0
-last c = border c _ (omega (arith, count c, ends c)) ∙ ap (λ (i : ℕ). getD (timed c .0 .tE) i 0) (count c)
+-- what it leaves
+leaves : (c : tie.After-enum-told2) → Leaving (got (told c) .0 .0) (timed c .0)
+leaves c = leaving _ _ _ (timed c .1)
 
 -- the width that was seen is the window's
 wide : (c : tie.After-enum-told2) → let s = window (told c) in
@@ -113,19 +110,19 @@ left c =
 
 -- reading comes to what is made of the time grid
 record-read : (c : tie.After-enum-told) → let a = start (window c) .args in
-    readGrid (a .buf .now) (a .pos) (a .num-time-slots) (a .carried .border)
-    ≡ Read.timed (a .num-time-slots) (a .carried .border) (got c .0 .0) (a .pos + (windowOf (a .buf .now) (a .pos) .width - length (got c .0 .1))) (timeGrid (a .num-time-slots) (got c .0 .0))
+    readGrid (a .buf .now) (a .pos) (a .num-time-slots) (a .carried)
+    ≡ Read.timed (a .num-time-slots) (a .carried) (got c .0 .0) (a .pos + (windowOf (a .buf .now) (a .pos) .width - length (got c .0 .1))) (timeGrid (a .num-time-slots) (got c .0 .0))
 record-read c =
     let a = start (window c) .args in
-    read-record (a .buf .now) (a .pos) (a .num-time-slots) (a .carried .border) (slots (window c)) (got c .0 .0) (got c .0 .1) (got c .1)
+    read-record (a .buf .now) (a .pos) (a .num-time-slots) (a .carried) (slots (window c)) (got c .0 .0) (got c .0 .1) (got c .1)
 
 -- the test against the carried border
-begins : (c : tie.After-is-border) → let t = c .before .before .before .before in
+begins : (c : tie.After-is-number) → let t = c .before .before .before .before in
     let a = start (window (told t)) .args in
-    c .is-border .result ≡ isBorder (a .carried .border) (getD (timed t .0 .tE) 0 0 + a .num-time-slots)
+    c .is-number .result ≡ isNumber (a .carried .border) (getD (timed t .0 .tE) 0 0 + a .num-time-slots)
 begins c =
     let t = c .before .before .before .before in
-    c .is-border .ensures ∙ rw (toZ-ofZ w32 (start (window (told t)) .args .carried .border) (search needs), border t 0 (omega arith))
+    c .is-number .ensures ∙ rw (toZ-ofZ w32 (start (window (told t)) .args .carried .border) (search needs), border t 0 (omega arith))
 
 is-slot-count-requires : tie.Need-is-slot-count-requires
 is-slot-count-requires c κs = search needs
@@ -136,7 +133,7 @@ refusal-requires c κs = search needs
 returns : tie.Need-returns
 returns c =
     let a = c .before .before .before .before .args in
-    rw (read-slots (a .buf .now) (a .pos) (a .num-time-slots) (a .carried .border) (sym (c .before .before .is-slot-count .ensures) ∙ not-true _ (c .before .if1 .taken)))
+    rw (read-slots (a .buf .now) (a .pos) (a .num-time-slots) (a .carried) (sym (c .before .before .is-slot-count .ensures) ∙ not-true _ (c .before .if1 .taken)))
     (c .refusal .ensures)
 
 peek-bits-requires : tie.Need-peek-bits-requires
@@ -156,7 +153,7 @@ returns-2 c =
     let s = c .before .before .before .before in
     let a = start s .args in
     let m = c .before .before .answer .given in
-    rw (read-bits (a .buf .now) (a .pos) (a .num-time-slots) (a .carried .border) (slots s) (m .0 .0)
+    rw (read-bits (a .buf .now) (a .pos) (a .num-time-slots) (a .carried) (slots s) (m .0 .0)
     (refused-is _ (m .0 .0) (ap (λ (x : Parsed). x .answer) (sym (outcome s)) ∙ m .1)))
     (c .refusal2 .ensures)
 
@@ -192,8 +189,8 @@ cast-begin c = omega (arith, few (c .before .before))
 add-begin : tie.Need-add-begin
 add-begin c = omega (arith, few (c .before .before), border (c .before .before) 0 (omega arith), ends (c .before .before))
 
-is-border-requires : tie.Need-is-border-requires
-is-border-requires c κs = let t = c .before .before .before in omega (arith, few t, border t 0 (omega arith), ends t)
+is-number-requires : tie.Need-is-number-requires
+is-number-requires c κs = let t = c .before .before .before in omega (arith, few t, border t 0 (omega arith), ends t)
 
 refusal-requires-4 : tie.Need-refusal-requires-4
 refusal-requires-4 c κs = search needs
@@ -201,41 +198,38 @@ refusal-requires-4 c κs = search needs
 returns-4 : tie.Need-returns-4
 returns-4 c =
     let t = c .before .before .before .before .before .before in
-    rw (record-read (told t), timed t .1, meets-not _ _ _ _ (timed t .0) (sym (begins (c .before .before)) ∙ not-true _ (c .before .if2 .taken)))
+    rw (record-read (told t), timed t .1, meets-not _ (start (window (told t)) .args .carried) _ _ (timed t .0) (sym (begins (c .before .before)) ∙ not-true _ (c .before .if2 .taken)))
     (c .refusal4 .ensures)
 
+left-by-requires : tie.Need-left-by-requires
+left-by-requires c κs =
+    let t = c .before .before .before .before .before in
+    rw (derived-time t) (leaves t .few, omega (arith, leaves t .small))
+
 sub-t22 : tie.Need-sub-t22
-sub-t22 c = left (c .before .before .before .before .before .before .before)
+sub-t22 c = left (c .before .before .before .before .before .before .before .before)
 
 cast-t26 : tie.Need-cast-t26
 cast-t26 c = search needs
 
 add-t27 : tie.Need-add-t27
 unfolding endOf
-add-t27 c = let t = c .before .before .before .before .before .before .before in omega (arith, left t, wide t, start (window (told t)) .fits .pos)
-
-mul-signed : tie.Need-mul-signed
-mul-signed c = let t = c .before .before .before .before .before .before .before in omega (arith, count t, ends t)
-
-element-copy-out-signed : tie.Need-element-copy-out-signed
-element-copy-out-signed c = let t = c .before .before .before .before .before .before .before in omega (arith, count t, ends t)
-
-signed-requires : tie.Need-signed-requires
-signed-requires c κs = let t = c .before .before .before .before .before .before .before .before in omega (arith, last t, ends t, few t)
+add-t27 c = let t = c .before .before .before .before .before .before .before .before in omega (arith, left t, wide t, start (window (told t)) .fits .pos)
 
 returns-5 : tie.Need-returns-5
 returns-5 c =
-    let b = c .before .before .before .before .before in
+    let b = c .before .before .before .before in
     let t = b .before .before .before .before in
     let e = told t in
     let a = start (window e) .args in
     let q = a .pos + (windowOf (a .buf .now) (a .pos) .width - length (got e .0 .1)) in
-    rw (record-read e, timed t .1, meets-so _ _ _ _ (timed t .0) (sym (begins b) ∙ not-false _ (c .before .before .before .before .if2 .left)))
-    (read-given (a .pos) (a .carried) (frameOf (got e .0 .0) q (timed t .0)) _ _ _ _
+    rw (record-read e, timed t .1, meets-so _ (a .carried) _ _ (timed t .0) (sym (begins b) ∙ not-false _ (c .before .before .before .if2 .left)))
+    (read-given (a .pos) (a .carried) (frameOf (a .carried .attack) (got e .0 .0) q (timed t .0)) _ _ _ _ _
     (ap (λ (x : Parsed). x .grid) (parsed-is e))
-    (ap (λ (x : Derived). x .time) (derived (t .before .before) ∙ ap derivedOf (timed t .1)))
+    (derived-time t)
+    refl
     (omega (arith, wide t, rest t))
-    (ap (λ (z : ℤ). toZ w32 (ofZ w32 z)) (c .signed .ensures) ∙ toZ-pos w32 _ (omega (arith, last t, ends t, few t)) ∙ ap pos (last t)))
+    (c .before .before .left-by .ensures ∙ ap leftBy (derived-time t) ∙ leaves t .is))
 
 pub read-grid-spec : {M : Type 1} → statement M
 read-grid-spec =
@@ -258,13 +252,11 @@ read-grid-spec =
     element-copy-out-begin
     cast-begin
     add-begin
-    is-border-requires
+    is-number-requires
     refusal-requires-4
     returns-4
+    left-by-requires
     sub-t22
     cast-t26
     add-t27
-    mul-signed
-    element-copy-out-signed
-    signed-requires
     returns-5)

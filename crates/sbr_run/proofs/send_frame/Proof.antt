@@ -1,10 +1,8 @@
 -- `sbr_run::send_frame` meets its contract.
 use mathlib.Core.Path.{_≡_, refl, sym, ap, _∙_}
-use native.Mathlib.Omega.{arith}
 use borrow.Author.Needs.{needs}
 use mir.Syntax.{w32}
 use mir.ValLaws.{toZ-ofZ}
-use lib.IntN.{pos}
 use Rattle.sbr_grid.specs.Refusals.{Outcome}
 use Rattle.sbr_grid.specs.Grid.{Grid}
 use Rattle.sbr_time_grid.specs.TimeGrid.{timeGrid, derivedOf}
@@ -89,7 +87,7 @@ enum-known-position : tie.Need-enum-known-position
 enum-known-position c = search needs
 
 sent-requires : tie.Need-sent-requires
-sent-requires c κs = let l = time (derivedAt (c .before .before .before .before .before)) .last in (l .few, omega (arith, l .is, l .small))
+sent-requires c κs = let l = time (derivedAt (c .before .before .before .before .before)) in (l .few, l .small)
 
 same-length : tie.Need-same-length
 same-length c = search needs
@@ -106,7 +104,7 @@ returns-2 c =
     rw r (
       c .sent .ensures
           ∙ sent-is (start (d .before .before) .args .place) (turned (g .elected) (m .time) (o .0)) _ _ _ _ _ (ap (λ (x : Election). x .grid) (g .whole)) (m .whole) (ap (λ (x : Election). x .transient) (g .whole))
-          (ap pos (m .last .is)) (o .2),
+          (m .left) (o .2),
       written w .1 ∙ ap (bytesAfter _) (o .1),
     )
 
