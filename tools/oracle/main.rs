@@ -449,15 +449,6 @@ fn run(input: &mut Input, out: &mut String) {
     out.push_str(&format!("run: {} sent, {frames_read} read, bytes {}\n", sent.len(), hex(&bytes)));
 }
 
-fn runs(all: &[u8]) -> String {
-    let mut out = String::new();
-    let mut input = Input(all);
-    while !input.0.is_empty() {
-        run(&mut input, &mut out);
-    }
-    out
-}
-
 /// A list of readings of one range, each from what the last one left.
 fn listened(input: &mut Input, out: &mut String) {
     let readings = input.byte();
@@ -479,13 +470,22 @@ fn listened(input: &mut Input, out: &mut String) {
     out.push_str(".\n");
 }
 
-fn readings(all: &[u8]) -> String {
+/// What each part of an input comes to, one after another.
+fn each(all: &[u8], one: fn(&mut Input, &mut String)) -> String {
     let mut out = String::new();
     let mut input = Input(all);
     while !input.0.is_empty() {
-        listened(&mut input, &mut out);
+        one(&mut input, &mut out);
     }
     out
+}
+
+fn runs(all: &[u8]) -> String {
+    each(all, run)
+}
+
+fn readings(all: &[u8]) -> String {
+    each(all, listened)
 }
 
 fn main() {
