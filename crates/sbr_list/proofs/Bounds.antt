@@ -22,7 +22,7 @@ use Rattle.sbr_grid.proofs.Slots.{slots-few}
 use Rattle.sbr_time_grid.proofs.Ends.{time-passes, time-ends}
 use Rattle.sbr_reader.specs.declared.Carried.{Carried}
 use Rattle.sbr_reader.specs.Read.{Accepted, readGrid}
-use Rattle.sbr_reader.proofs.Flag.{told-frame}
+use Rattle.sbr_reader.proofs.Told.{told-frame}
 use Rattle.sbr_writer.proofs.Writable.{fields-told}
 use Rattle.sbr_reader.proofs.Frames.{frame-writes}
 use Rattle.sbr_list.specs.Line.{Small, ShortTimes, Short}
@@ -131,7 +131,7 @@ frame-shows l p n c f i e h =
     let w = frame-writes l p n c f e in
     let s = simp and-eq-true-iff at (w .written .fits) in
     let k = fields-told (f .grid) (s .0) in
-    let t = times-short n (f .grid) (f .time) (told-frame n c f l p e .derived) (k .pointed) in
+    let t = times-short n (f .grid) (f .time) (told-frame l p n c f e .derived) (k .pointed) in
     record {
       short = record { number = h; times = t .0; flags = k .most };
       first = t .1;

@@ -81,7 +81,7 @@ listing (n ∷ b ∷ k ∷ l) = linesFrom l n k 0 0 (starting (pos b))
 abbrev pub FlagUnprinted : Type 0
 FlagUnprinted =
     (l : List ℕ) (n k i p : ℕ) (b : ℤ) (a : Bool)
-    → linesFrom l n k i p (record { border = b; attack = a }) ≡ linesFrom l n k i p (record { border = b; attack = false })
+    → linesFrom l n k i p (record { border = b; attack = a }) ≡ linesFrom l n k i p (starting b)
 
 -- the bytes l with a text over their front
 abbrev pub over : List ℕ → List ℕ → List ℕ

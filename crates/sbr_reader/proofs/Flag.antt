@@ -1,5 +1,5 @@
 -- The flag of a frame, and what depends on the flag that is handed in.
-use mathlib.Core.Path.{_≡_, refl, sym, ap, _∙_, subst}
+use mathlib.Core.Path.{_≡_, refl, sym, ap, _∙_}
 use mathlib.Core.Bool.{Bool, true, false}
 use mathlib.Core.List.{List}
 use Prim.Native.Nat.{ℕ, zero, suc, _+_, _-_, _≤_}
@@ -15,43 +15,16 @@ use Rattle.sbr_grid.specs.declared.Refusal.the-variants.{SlotCount, Chain}
 use Rattle.sbr_grid.specs.Refusals.{Outcome, answered, refused, unless}
 use Rattle.sbr_grid.specs.Grid.{Grid, numEnv}
 use Rattle.sbr_grid.specs.Times.{Times, isNumber, slotCount}
-use Rattle.sbr_grid.proofs.Outcomes.{unless-answered}
 use Rattle.sbr_time_grid.specs.TimeGrid.{byPointer, lA, timeGrid}
 use Rattle.sbr_time_grid.proofs.Ends.{time-passes}
 use Rattle.sbr_writer.proofs.Writable.{both, fields-told}
 use Rattle.sbr_parse.specs.Syntax.{sbrGrid}
 use Rattle.sbr_reader.specs.declared.Carried.{Carried}
-use Rattle.sbr_reader.specs.Read.{Accepted, marksEnd, meets, timed, parsed, readGrid}
+use Rattle.sbr_reader.specs.Read.{Accepted, meets, timed, parsed, readGrid, starting}
 use Rattle.sbr_reader.specs.Flag.{pointsAtEnd, begun, FlagExactly, FlagOnlyTold}
 use Rattle.sbr_reader.proofs.Frames.{frame-writes}
 use Rattle.sbr_reader.proofs.ReadLaws.{frameOf}
-
--- ---- what a reading tells of its frame
-
-pub record Told (n : ℕ) (c : Carried) (f : Accepted) : Type 0 where
-  pub derived : timeGrid n (f .grid) ≡ answered (f .time)
-  pub begins : f .beginsOnAttack ≡ c .attack
-  pub ends : f .endsOnAttack ≡ marksEnd (f .grid) (f .time)
-
-module _ (n : ℕ) (c : Carried) (f : Accepted) where
-  met : (g : Grid) (q : ℕ) (t : Times) → timeGrid n g ≡ answered t → meets n c g q t ≡ answered f → Told n c f
-  unfolding meets
-  met g q t e h =
-      let k = unless-answered (isNumber (c .border) (getD (t .tE) 0 0 + n)) _ _ h .1 in
-      let w : frameOf (c .attack) g q t ≡ f = cc in
-      subst (λ (x : Accepted). Told n c x) w (record { derived = e; begins = refl; ends = refl })
-
-  by-times : (g : Grid) (q : ℕ) (o : Outcome Times) → timeGrid n g ≡ o → timed n c g q o ≡ answered f → Told n c f
-  by-times g q (answered t) e h = met g q t e h
-  by-times g q (refused x) e h = let z : _≡_ {A = ℕ} 0 1 = cc in absurd (omega arith)
-
-  by-bits : (p len : ℕ) (o : Outcome (Grid × List Bool)) → parsed n c p len o ≡ answered f → Told n c f
-  by-bits p len (answered r) h = by-times (r .0) (p + (len - length (r .1))) (timeGrid n (r .0)) refl h
-  by-bits p len (refused x) h = let z : _≡_ {A = ℕ} 0 1 = cc in absurd (omega arith)
-
-  pub told-frame : (l : List ℕ) (p : ℕ) → readGrid l p n c ≡ answered f → Told n c f
-  unfolding readGrid
-  told-frame l p h = by-bits p (length (bitsFrom l p)) (sbrGrid (bitsFrom l p)) (unless-answered (slotCount n) _ _ h .1)
+use Rattle.sbr_reader.proofs.Told.{told-frame}
 
 -- ---- marks by the pointer
 
@@ -85,7 +58,7 @@ number-so z k h = rw h (eq-eqb k k refl)
 
 pub flag-exactly : FlagExactly
 flag-exactly l p n c f h =
-    let t = told-frame n c f l p h in
+    let t = told-frame l p n c f h in
     let m = ap (λ (x : Times). x .lA) (time-passes n (f .grid) (f .time) (t .derived) .value) in
     let w = fields-told (f .grid) (both _ _ (frame-writes l p n c f h .written .fits) .0) in
     let points : f .endsOnAttack ≡ pointsAtEnd (f .grid .frameClass) (f .grid .pointer) = t .ends ∙ rw m (by-class (f .grid .frameClass) (f .grid) refl (w .pointed)) in
@@ -103,23 +76,20 @@ flag-exactly l p n c f h =
 -- ---- what depends on the flag that is handed in
 
 module _ (n : ℕ) (b : ℤ) (a : Bool) where
-  -- what is carried, with that flag and with a clear one
-  abbrev flagged : Carried
-  flagged = record { border = b; attack = a }
-
-  abbrev bare : Carried
-  bare = record { border = b; attack = false }
+  -- what is carried, with that flag
+  abbrev given : Carried
+  given = record { border = b; attack = a }
 
   met-told : (g : Grid) (q : ℕ) (t : Times) (m : Bool) → unless m Chain (answered (frameOf a g q t)) ≡ begun a (unless m Chain (answered (frameOf false g q t)))
   met-told g q t true = refl
   met-told g q t false = refl
 
-  timed-told : (g : Grid) (q : ℕ) (o : Outcome Times) → timed n flagged g q o ≡ begun a (timed n bare g q o)
+  timed-told : (g : Grid) (q : ℕ) (o : Outcome Times) → timed n given g q o ≡ begun a (timed n (starting b) g q o)
   unfolding meets
   timed-told g q (answered t) = met-told g q t (isNumber b (getD (t .tE) 0 0 + n))
   timed-told g q (refused e) = refl
 
-  parsed-told : (p len : ℕ) (o : Outcome (Grid × List Bool)) → parsed n flagged p len o ≡ begun a (parsed n bare p len o)
+  parsed-told : (p len : ℕ) (o : Outcome (Grid × List Bool)) → parsed n given p len o ≡ begun a (parsed n (starting b) p len o)
   parsed-told p len (answered r) = timed-told (r .0) (p + (len - length (r .1))) (timeGrid n (r .0))
   parsed-told p len (refused e) = refl
 

@@ -7,22 +7,20 @@ use native.Mathlib.Omega.{arith}
 use native.Mathlib.Decide.{decLe}
 use borrow.Author.Tests.{le-leb, lt-leb, leb-true, ltb-true}
 use lib.Dec.{leb, ltb, eqb}
-use lib.ListN.{length, length-append, getD}
+use lib.ListN.{length, length-append}
 use Rattle.bits.specs.Room.{bitsFrom}
 use Rattle.sbr_grid.specs.declared.FrameClass.{FrameClass}
 use Rattle.sbr_grid.specs.declared.FrameClass.the-variants.{FixFix, FixVar, VarFix, VarVar}
-use Rattle.sbr_grid.specs.Refusals.{Outcome, answered, refused, valueOr}
+use Rattle.sbr_grid.specs.Refusals.{answered}
 use Rattle.sbr_grid.specs.Grid.{widthFrom, ptrBits, Grid, numEnv}
-use Rattle.sbr_grid.specs.Times.{Times, isNumber, slotCount}
+use Rattle.sbr_grid.specs.Times.{Times, slotCount}
 use Rattle.sbr_grid.proofs.Outcomes.{unless-answered}
 use Rattle.sbr_time_grid.specs.TimeGrid.{byPointer, tE, rises, middleBorder, countsFit, bordersFit, noiseFits, accepts, timeGrid}
 use Rattle.sbr_writer.specs.Syntax.{gridBits}
-use Rattle.sbr_parse.specs.Syntax.{sbrGrid}
-use Rattle.sbr_reader.specs.declared.Carried.{Carried}
-use Rattle.sbr_reader.specs.Read.{Accepted, meets, timed, parsed, readGrid}
-use Rattle.sbr_reader.specs.Inverse.{Rewritten, FrameWrites}
+use Rattle.sbr_reader.specs.Inverse.{FrameWrites}
 use Rattle.sbr_writer.proofs.Writable.{both, writable-view}
 use Rattle.sbr_parse.proofs.Inverse.{Sent, sent, writes-back}
+use Rattle.sbr_reader.proofs.Told.{told-frame}
 
 -- a middle border inside the frame is that of a pointer of at most the envelope count
 pointer-from : (p l : ℕ) → 1 < l → 1 ≤ byPointer p (l - 1) (l - 1) (l + 1 - p) → p ≤ l
@@ -76,39 +74,16 @@ pointed n g t u s h (yes l) d = narrow-one (g .pointer) (numEnv g) l (s .narrow)
 pointed n g t u s h (no l) (yes e) = omega (arith, rw e at (ap (λ x. x .pointer) (s .clear)))
 pointed n g t u s h (no l) (no f) = time-pointer n g t h (omega arith) f
 
--- an accepted frame has the record and the position that it was accepted with
-met : (n : ℕ) (c : Carried) (g : Grid) (q : ℕ) (t : Times) (f : Accepted) → meets n c g q t ≡ answered f
-    → (g ≡ f .grid) × (q ≡ f .position)
-unfolding meets
-met n c g q t f h =
-    let e = unless-answered (isNumber (c .border) (getD (t .tE) 0 0 + n)) _ _ h .1 in
-    (ap (valueOr (λ x. x .grid) g) e, ap (valueOr (λ x. x .position) q) e)
-
-module _ (n : ℕ) (c : Carried) (p : ℕ) (bs : List Bool) (f : Accepted) where
-  -- of a frame whose time grid came to o
-  written : (g : Grid) (rest : List Bool) (o : Outcome Times) → sbrGrid bs ≡ answered (g, rest) → timeGrid n g ≡ o
-      → timed n c g (p + (length bs - length rest)) o ≡ answered f → Rewritten bs p f
-  written g rest (refused x) h e k = let z : _≡_ {A = ℕ} 0 1 = cc in absurd (omega arith)
-  written g rest (answered t) h e k =
-      let s = sent bs g rest h in
-      let l = pointed n g t (s .0) (s .2) e (decLe (numEnv g) 1) (fixed (g .frameClass)) in
-      let w = writes-back bs g rest h (le-leb _ _ l) in
-      let m = met n c g (p + (length bs - length rest)) t f k in
-      record {
-        rest = rest;
-        written = rw (m .0) at w;
-        position = rw (← (m .0), ← (m .1)) (omega (arith, ap length (w .bits), length-append (gridBits g) rest));
-        kept = rw (m .0) at (writable-view g (w .fits));
-      }
-
-  -- of a frame whose bits came to o
-  read : (o : Outcome (Grid × List Bool)) → sbrGrid bs ≡ o → parsed n c p (length bs) o ≡ answered f → Rewritten bs p f
-  read (refused x) e k = let z : _≡_ {A = ℕ} 0 1 = cc in absurd (omega arith)
-  read (answered r) e k = written (r .0) (r .1) (timeGrid n (r .0)) e refl k
-
 -- the record of every accepted frame is writable and writes the bits that it was read from, up to the frame's position
 pub frame-writes : FrameWrites
-unfolding readGrid
 frame-writes l p n c f h =
-    let o = sbrGrid (bitsFrom l p) in
-    read n c p (bitsFrom l p) f o refl (unless-answered (slotCount n) _ _ h .1)
+    let g = f .grid in
+    let t = told-frame l p n c f h in
+    let s = sent (bitsFrom l p) g (t .rest) (t .syntax) in
+    let w = writes-back (bitsFrom l p) g (t .rest) (t .syntax) (le-leb _ _ (pointed n g (f .time) (s .0) (s .2) (t .derived) (decLe (numEnv g) 1) (fixed (g .frameClass)))) in
+    record {
+      rest = t .rest;
+      written = w;
+      position = omega (arith, t .position, ap length (w .bits), length-append (gridBits g) (t .rest));
+      kept = writable-view g (w .fits);
+    }

@@ -1,3 +1,4 @@
-pub mod Frames
 pub mod ReadLaws
+pub mod Told
+pub mod Frames
 pub mod Flag

@@ -10,7 +10,7 @@ use Rattle.sbr_grid.specs.declared.FrameClass.the-variants.{VarFix}
 use Rattle.sbr_grid.specs.Refusals.{Outcome, answered, refused}
 use Rattle.sbr_grid.specs.Grid.{byClass, numEnv}
 use Rattle.sbr_reader.specs.declared.Carried.{Carried}
-use Rattle.sbr_reader.specs.Read.{Accepted, readGrid}
+use Rattle.sbr_reader.specs.Read.{Accepted, readGrid, starting}
 
 -- FIXVAR and VARVAR with bs_pointer 1, no FIXFIX and no VARFIX
 abbrev pub pointsAtEnd : FrameClass → ℕ → Bool
@@ -43,4 +43,4 @@ begun a (refused e) = refused e
 abbrev pub FlagOnlyTold : Type 0
 FlagOnlyTold =
     (l : List ℕ) (p n : ℕ) (b : ℤ) (a : Bool)
-    → readGrid l p n (record { border = b; attack = a }) ≡ begun a (readGrid l p n (record { border = b; attack = false }))
+    → readGrid l p n (record { border = b; attack = a }) ≡ begun a (readGrid l p n (starting b))

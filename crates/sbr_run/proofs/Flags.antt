@@ -5,7 +5,7 @@ use mathlib.Core.List.{List, [], _∷_, map}
 use Prim.Native.Nat.{ℕ}
 use Rattle.sbr_grid.specs.Refusals.{Outcome, answered, refused}
 use Rattle.sbr_reader.specs.Read.{Accepted, carrying}
-use Rattle.sbr_reader.proofs.Flag.{told-frame}
+use Rattle.sbr_reader.proofs.Told.{told-frame}
 use Rattle.sbr_run.specs.Run.{Terms, frameOf, framesFrom}
 use Rattle.sbr_run.specs.Readings.{Reading, reading, Receiver, heard, listened, noted, read, frameRead, OwnReading, sentOf, flagAfter, FlagsFollow, EveryFlag}
 
@@ -18,7 +18,7 @@ more : (r : Terms) (n : ℕ) (bytes : List ℕ) (c : Receiver) (x : Reading) (rs
     → FlagsFollow r (heard c o) rs → More r c rs o
 more r n bytes c x rs (refused e) q own d = record { begin = d .begin; left = d .left }
 more r n bytes c x rs (answered f) q own d =
-    let t = told-frame n (carrying (c .border) (c .attack)) f bytes (c .position) (ap reading (sym own) ∙ q) in
+    let t = told-frame bytes (c .position) n (carrying (c .border) (c .attack)) f (ap reading (sym own) ∙ q) in
     let rest = d .begin ∙ ap (λ (a : Bool). framesFrom r a (map sentOf (read rs))) (t .ends) in
     record {
       begin = λ i. frameOf r (f .grid) (f .time) (t .begins i) ∷ rest i;
