@@ -20,7 +20,7 @@ int main(void)
     uint8_t bytes[8] = {0};
     uint64_t at = 0;
 
-    /* one envelope of high resolution; then an attack at slot 10: envelopes 0..10, 10..12, 12..16; one envelope whose pointer marks its end */
+    /* one envelope of high resolution; an attack at slot 10: envelopes 0..10, 10..12, 12..16; one envelope whose pointer marks its end; the first again */
     const uint8_t high[1] = {1}, low[3] = {0, 0, 0}, trailing[2] = {1, 0}, none[1] = {0};
     uint32_t r = sbr_write_grid(bytes, sizeof bytes, &at, SBR_FIXFIX, 1, high, 1, 0, 0, none, 1, 0, none, 1, 0, 0);
     if (r != 0)

@@ -5,8 +5,8 @@
  *        timeline FILE      draws a stream in the input format of gridlist (slot count, first border, count of frames, a byte each;
  *                           then the bits); - for standard input
  *
- * A frame is drawn over its slots: | a border, = an envelope of high resolution, - of low, # the marked one; * the first border of a frame that begins on an
- * attack, which the frame before marks at its very end; below it the noise borders.
+ * A frame is drawn over its slots: | a border, = an envelope of high resolution, - of low, # the marked one; below it the noise borders. * is the first border
+ * of a frame that begins on an attack, which the frame before marks at its very end.
  */
 #include "sbr_grid.h"
 

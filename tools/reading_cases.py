@@ -53,22 +53,23 @@ def both(leading, trailing, pointer, lead=0, over=0):
 def made():
     for slots in (15, 16):
         plain = fixfix(0, 1)
-        # every count and every pointer that its field holds, one past the count too, with a plain frame behind it
+        # every count and every pointer up to it, with FixFix of each count behind
         grids = [fixvar(n, p) for n in range(1, 5) for p in range(n + 1)] + [varfix(n, p) for n in range(1, 5) for p in range(n + 1)]
         grids += [both(j, n - 1 - j, p) for n in range(1, 6) for j in range(min(n, 4)) if n - 1 - j <= 3 for p in range(n + 1)]
-        for grid in grids:
-            yield case([reading(slots)] * 3, slots, grid + plain * 2)
-            yield case([reading(slots)] * 2, slots, grid + plain, attack=255)
-        for pointer in (3, 5, 6):
-            yield case([reading(slots)] * 2, slots, fixvar(2 if pointer == 3 else 4, pointer) + plain, attack=1)
-            yield case([reading(slots)] * 2, slots, varfix(2 if pointer == 3 else 4, pointer) + plain, attack=1)
+        for i, grid in enumerate(grids):
+            yield case([reading(slots)] * 3, slots, grid + fixfix(i % 3, 1) + plain)
+            yield case([reading(slots)] * 2, slots, grid + fixfix(i % 3, 0), attack=255)
+        # pointers past the count that their field holds
+        for grid in [fixvar(2, 3), varfix(2, 3), both(0, 1, 3)] + [
+                make for p in (5, 6, 7) for make in (fixvar(4, p), varfix(4, p), both(1, 2, p))] + [both(2, 2, p) for p in (6, 7)]:
+            yield case([reading(slots)] * 2, slots, grid + plain, attack=1)
         # a flag that is set, refused readings of each kind, the frame that begins on the attack, and one that does not
         for seam in (fixvar(1, 1), both(0, 0, 1), fixvar(3, 1), both(2, 2, 1)):
             first = (len(seam) + 7) // 8
             yield case([reading(slots), reading(14), reading(31 - slots, first), reading(slots, 0), reading(slots), reading(slots)], slots, seam + plain * 2)
             for refused in (fixfix(3, 0), varfix(1, 0, 2), fixvar(4, 6)):
                 yield case([reading(slots)] * 3, slots, seam + refused)
-            # one attack after another: each frame begins on one and marks one
+            # one attack after another: each frame marks one, and each behind it begins on one
             yield case([reading(slots)] * 5, slots, seam * 3 + plain * 2)
         # a frame that ends past its slots, the next one from there
         for over in range(1, 4):

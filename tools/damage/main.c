@@ -173,7 +173,7 @@ static void try_write(uint64_t number)
     written++;
 }
 
-/* Reads until a refusal, which must leave everything as it was; the flag of each frame is the next one's first output. */
+/* Reads until a refusal, which must leave everything as it was; the flag that a frame leaves is handed in to the next reading. */
 static void read_all(const uint8_t *bytes, size_t length, uint64_t start, int32_t border, uint64_t slots, uint64_t number, int at_end)
 {
     uint8_t before[128], after[128], kept[MAX_BYTES];

@@ -39,7 +39,8 @@ pub record Claims : Type 1 where
   pub reads-back : ReadsBack
   pub writes-back : WritesBack
   pub frame-writes : FrameWrites
-  -- a frame read leaves the flag set exactly where its mark is its envelope count: FIXVAR and VARVAR with bs_pointer 1; no other result depends on the flag
+  -- a frame read leaves the flag set exactly where its mark is its envelope count: FIXVAR and VARVAR with bs_pointer 1; of the flag handed in depends
+  -- only whether the frame begins on an attack
   pub flag-exactly : FlagExactly
   pub flag-only-told : FlagOnlyTold
   -- the border search answers the first of all plans, and none exactly where there is none

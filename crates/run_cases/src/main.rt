@@ -51,7 +51,7 @@ fn keep(number: u64, numbers: &mut [u64; MAX_FRAMES], frames: usize) -> usize {
 }
 
 // A frame, how many numbers its rows hold, and whether it begins on an attack.
-fn print_frame(grid: SbrGrid, time: TimeGrid, count: usize, begins_on_attack: bool) {
+fn print_whole(grid: SbrGrid, time: TimeGrid, count: usize, begins_on_attack: bool) {
     run_lines::print_frame(grid, time);
     case_io::print_field(b" rows ", count as u64);
     run_lines::print_begins(begins_on_attack);
@@ -73,7 +73,7 @@ fn sent(
     let place = sending.place;
     let count = rows(x, high, low, grid, num_time_slots);
     case_io::print(b"sent ");
-    print_frame(grid, time, count, begins_on_attack);
+    print_whole(grid, time, count, begins_on_attack);
     case_io::print_flag(b" transient ", sending.transient);
     run_lines::print_place(place);
     let number = run_lines::frame_number(grid, time, begins_on_attack);
@@ -158,7 +158,7 @@ fn received(
     let count = rows(&x, high, low, grid, num_time_slots);
     let begins_on_attack = receiving.begins_on_attack;
     case_io::print(b"read ");
-    print_frame(grid, time, count, begins_on_attack);
+    print_whole(grid, time, count, begins_on_attack);
     run_lines::print_place(place);
     let number = run_lines::frame_number(grid, time, begins_on_attack);
     let frames = compare(number, numbers, sent, frames);

@@ -70,7 +70,7 @@ fn wide(b: u8) -> usize
 }
 
 // What a first frame is read from: a byte as the border, the flag clear.
-fn first(b: u8) -> Carried
+fn first_carried(b: u8) -> Carried
     ensures { λ r. ⌜ r ≡ starting (pos b) ⌝ }
 {
     Carried::start(b as i32)
@@ -88,7 +88,7 @@ pub fn list_grids(input: &[u8], page: &mut [u8; PAGE_SIZE]) -> usize
         &input[3..],
         wide(input[0]),
         wide(input[2]),
-        first(input[1]),
+        first_carried(input[1]),
         page,
     )
 }

@@ -108,13 +108,13 @@ pub fn read_grid(buf: &[u8], pos: usize, num_time_slots: usize, carried: Carried
     if !is_number(carried.border, begin) {
         return refusal(Refusal::Chain, pos, carried);
     }
-    let left = Carried::left_by(time);
+    let next = Carried::left_by(time);
     FrameRead {
         answer: Answer::Given,
         grid,
         time,
         begins_on_attack: carried.attack,
         position: pos + (window.width - parsed.left) as usize,
-        carried: left,
+        carried: next,
     }
 }

@@ -7,11 +7,11 @@ use Rattle.sbr_grid.specs.Refusals.{Outcome, answered, refused}
 use Rattle.sbr_reader.specs.Read.{Accepted, carrying}
 use Rattle.sbr_reader.proofs.Told.{told-frame}
 use Rattle.sbr_run.specs.Run.{Terms, frameOf, framesFrom}
-use Rattle.sbr_run.specs.Readings.{Reading, reading, Receiver, heard, listened, noted, read, frameRead, OwnReading, sentOf, flagAfter, FlagsFollow, EveryFlag}
+use Rattle.sbr_run.specs.Readings.{Reading, reading, Receiver, heard, listened, noted, read, frameHeard, OwnReading, sentOf, flagAfter, FlagsFollow, EveryFlag}
 
 -- one reading more in front, by what it comes to
 record More (r : Terms) (c : Receiver) (rs : List Reading) (o : Outcome Accepted) : Type 0 where
-  begin : map (frameRead r) (noted o (read rs)) ≡ framesFrom r (c .attack) (map sentOf (noted o (read rs)))
+  begin : map (frameHeard r) (noted o (read rs)) ≡ framesFrom r (c .attack) (map sentOf (noted o (read rs)))
   left : listened (heard c o) rs .attack ≡ flagAfter (c .attack) (noted o (read rs))
 
 more : (r : Terms) (n : ℕ) (bytes : List ℕ) (c : Receiver) (x : Reading) (rs : List Reading) (o : Outcome Accepted) → reading x ≡ o → OwnReading n bytes c x o

@@ -14,7 +14,7 @@ use Rattle.sbr_grid.specs.Refusals.{Outcome, answered, refused}
 use Rattle.sbr_writer.specs.Syntax.{gridBits}
 use Rattle.sbr_reader.specs.Read.{Accepted, marksEnd, readGrid, carrying}
 use Rattle.sbr_run.specs.Run.{Sent, Terms, State, Frame, frameOf, framesFrom, stream}
-use Rattle.sbr_run.specs.Readings.{Reading, reading, Receiver, tunedAt, heard, listened, noted, read, frameRead, inTerms, OwnReading, Readings, Holds}
+use Rattle.sbr_run.specs.Readings.{Reading, reading, Receiver, tunedAt, heard, listened, noted, read, frameHeard, inTerms, OwnReading, Readings, Holds}
 use Rattle.sbr_run.specs.Term3.{ReadBack}
 use Rattle.sbr_run.proofs.OneFrame.{Good, got, read-ok}
 use Rattle.sbr_run.proofs.Transmit.{GoodChain}
@@ -49,7 +49,7 @@ front n b a q bytes f fs g h = read-ok n b a q bytes f (stream fs ++ h .0) g (h 
 
 -- what readings leave of the frames fs that stand from the receiver's position on; z is what the transmitter is left with
 pub record Heard (r : Terms) (bytes : List ℕ) (c : Receiver) (rs : List Reading) (fs : List Sent) (z : State) : Type 0 where
-  pub frames : map (frameRead r) (read rs) ≡ take (length (read rs)) (framesFrom r (c .attack) fs)
+  pub frames : map (frameHeard r) (read rs) ≡ take (length (read rs)) (framesFrom r (c .attack) fs)
   pub chain : GoodChain (r .slots) (listened c rs .border) (listened c rs .attack) (drop (length (read rs)) fs) z
   pub holds : Holds bytes (listened c rs .position) (stream (drop (length (read rs)) fs))
   pub passed : listened c rs .position + length (stream (drop (length (read rs)) fs)) ≡ c .position + length (stream fs)
@@ -61,7 +61,7 @@ Hears r bytes rs =
 
 -- the same, by what the first reading comes to
 record By (r : Terms) (bytes : List ℕ) (c : Receiver) (rs : List Reading) (fs : List Sent) (z : State) (o : Outcome Accepted) : Type 0 where
-  frames : map (frameRead r) (noted o (read rs)) ≡ take (length (noted o (read rs))) (framesFrom r (c .attack) fs)
+  frames : map (frameHeard r) (noted o (read rs)) ≡ take (length (noted o (read rs))) (framesFrom r (c .attack) fs)
   chain : GoodChain (r .slots) (listened (heard c o) rs .border) (listened (heard c o) rs .attack) (drop (length (noted o (read rs))) fs) z
   holds : Holds bytes (listened (heard c o) rs .position) (stream (drop (length (noted o (read rs))) fs))
   passed : listened (heard c o) rs .position + length (stream (drop (length (noted o (read rs))) fs)) ≡ c .position + length (stream fs)

@@ -50,8 +50,8 @@ read [] = []
 read (r ∷ rs) = noted (reading r) (read rs)
 
 -- a frame that is read begins on an attack where the reading says so
-abbrev pub frameRead : Terms → Accepted → Frame
-frameRead r f = frameOf r (f .grid) (f .time) (f .beginsOnAttack)
+abbrev pub frameHeard : Terms → Accepted → Frame
+frameHeard r f = frameOf r (f .grid) (f .time) (f .beginsOnAttack)
 
 -- the reading in the run's terms: its slot count n, those bytes, and the border, flag and position that the last one left
 abbrev pub inTerms : ℕ → List ℕ → Receiver → Reading
@@ -84,7 +84,7 @@ flagAfter a (f ∷ fs) = flagAfter (isNumber (f .time .lA) (numEnv (f .grid))) f
 -- whatever bytes are read, and however many readings are refused between: a frame begins on an attack exactly where the mark of the frame read before it is
 -- that one's envelope count, the first one where the receiver starts so
 pub record FlagsFollow (r : Terms) (c : Receiver) (rs : List Reading) : Type 0 where
-  pub begin : map (frameRead r) (read rs) ≡ framesFrom r (c .attack) (map sentOf (read rs))
+  pub begin : map (frameHeard r) (read rs) ≡ framesFrom r (c .attack) (map sentOf (read rs))
   pub left : listened c rs .attack ≡ flagAfter (c .attack) (read rs)
 
 abbrev pub EveryFlag : Type 0

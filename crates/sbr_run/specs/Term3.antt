@@ -20,7 +20,7 @@ use Rattle.sbr_encoder.specs.Election.{Elected}
 use Rattle.sbr_encoder.specs.Electable.{Electable, NotAtEnd}
 use Rattle.sbr_envelopes.specs.Envelopes.{sumOf, rowLengths, energies}
 use Rattle.sbr_run.specs.Run.{Turn, Sent, Terms, Choosing, Elects, State, after, sent, Run, Frame, framesSent, stream, Chain}
-use Rattle.sbr_run.specs.Readings.{Reading, reading, tunedAt, listened, read, frameRead, inTerms, Readings, Holds}
+use Rattle.sbr_run.specs.Readings.{Reading, reading, tunedAt, listened, read, frameHeard, inTerms, Readings, Holds}
 
 -- ---- the transmitter
 
@@ -50,7 +50,7 @@ pub record Transmitted (r : Terms) (s : State) (ts : List Turn) : Type 0 where
 -- readings rs over bytes that hold the stream of fs at q, from the border b with the flag clear; z is what the transmitter is left with
 pub record ReadBack (r : Terms) (fs : List Sent) (b : ℕ) (z : State) (bytes : List ℕ) (q : ℕ) (rs : List Reading) : Type 0 where
   -- those that answer give the frames sent, in order from the first, alike in all seven respects; the list ends when all are read
-  pub in-order : length (read rs) ≤ length fs → map (frameRead r) (read rs) ≡ take (length (read rs)) (framesSent r fs)
+  pub in-order : length (read rs) ≤ length fs → map (frameHeard r) (read rs) ≡ take (length (read rs)) (framesSent r fs)
   -- while a frame is unread, the next reading in the run's terms is not refused
   pub answers : length (read rs) < length fs
       → (e : Refusal) → reading (inTerms (r .slots) bytes (listened (tunedAt b q) rs)) ≡ refused e → ⊥

@@ -32,7 +32,7 @@ use Rattle.sbr_attack.specs.Attack.{lateAttackVarvar, fixvarSegs, varfixSegs, f
 use Rattle.sbr_choice.specs.Choice.{attackGrid, plainGrid, chosenGrid}
 use Rattle.sbr_encoder.specs.Election.{elect}
 use Rattle.sbr_run.specs.Run.{Turn, Turned, Terms, State, Elects, turn, after, sent, HandsIn, Run, Frame, framesSent}
-use Rattle.sbr_run.specs.Readings.{Reading, tunedAt, listened, read, frameRead, Readings}
+use Rattle.sbr_run.specs.Readings.{Reading, tunedAt, listened, read, frameHeard, Readings}
 use Rattle.sbr_run.specs.Term3.{ReadBack, Apart}
 use Rattle.sbr_run.proofs.Receive.{length-frames}
 use Rattle.sbr_run.proofs.Term3.{term3}
@@ -78,7 +78,7 @@ module _ (r : Terms) (s e : State) (ts : List Turn) (run : Run Elects r s ts) (e
     same-count : length (read rs) ≡ length (sent ts)
     same-count = all ∙ ap length (sym sends) ∙ length-frames r false (sent ts)
 
-    frames-read : map (frameRead r) (read rs) ≡ fs
+    frames-read : map (frameHeard r) (read rs) ≡ fs
     frames-read = back .in-order (omega (arith, same-count)) ∙ ap (take (length (read rs))) sends ∙ rw all (take-length fs)
 
     place-left : listened (tunedAt (s .border) (s .position)) rs ≡ record { border = e .border; attack = e .attack; position = e .position }

@@ -13,7 +13,7 @@ use Rattle.sbr_floats.specs.Floats.{zero64}
 use Rattle.sbr_encoder.specs.Election.{elect}
 use Rattle.sbr_reader.specs.Read.{carrying}
 use Rattle.sbr_run.specs.Run.{Turn, Terms, Elects, State, after, sent, Run, Frame, framesSent}
-use Rattle.sbr_run.specs.Readings.{Reading, Receiver, tunedAt, reading, listened, read, frameRead, inTerms, Readings}
+use Rattle.sbr_run.specs.Readings.{Reading, Receiver, tunedAt, reading, listened, read, frameHeard, inTerms, Readings}
 use Rattle.sbr_run.specs.Term3.{Apart}
 
 -- ---- samples
@@ -131,7 +131,7 @@ pub record Sample : Type 0 where
   pub runs-too : Run Elects terms afterOne otherTurns
   -- by term 3, whose hypotheses these meet: the readings give the frames sent and leave the transmitter's border, flag and position; after two readings
   -- the next one is not refused; neither run's stream begins the other's
-  pub reads : map (frameRead terms) (read readings) ≡ frames
+  pub reads : map (frameHeard terms) (read readings) ≡ frames
   pub hears : listened tuned readings ≡ record { border = end .border; attack = end .attack; position = end .position }
   pub unread : (e : Refusal) → reading (inTerms 16 (end .bytes) (listened tuned (take 2 readings))) ≡ refused e → ⊥
   pub apart : Apart turns otherTurns

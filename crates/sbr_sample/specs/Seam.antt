@@ -8,7 +8,7 @@ use lib.ListN.{take}
 use Rattle.sbr_grid.specs.declared.FrameClass.the-variants.{FixFix, FixVar}
 use Rattle.sbr_reader.specs.Read.{carrying}
 use Rattle.sbr_run.specs.Run.{Frame}
-use Rattle.sbr_run.specs.Readings.{Reading, tunedAt, listened, read, frameRead, Readings}
+use Rattle.sbr_run.specs.Readings.{Reading, tunedAt, listened, read, frameHeard, Readings}
 use Rattle.sbr_sample.specs.Sample.{terms}
 
 -- 01 00 00 1 1: FixVar, one envelope, bs_pointer 1, high; 00 00 0: FixFix, one envelope, low
@@ -47,6 +47,6 @@ seamFrames =
 pub record Seam : Type 0 where
   pub listens : Readings 16 seamBytes (tunedAt 16 0) seamReadings
   -- the second frame begins on the attack
-  pub reads : map (frameRead terms) (read seamReadings) ≡ seamFrames
+  pub reads : map (frameHeard terms) (read seamReadings) ≡ seamFrames
   -- the flag at the start, and after each reading
   pub flags : map (λ k. listened (tunedAt 16 0) (take k seamReadings) .attack) (0 ∷ 1 ∷ 2 ∷ 3 ∷ []) ≡ false ∷ true ∷ true ∷ false ∷ []

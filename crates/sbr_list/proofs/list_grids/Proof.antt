@@ -37,11 +37,11 @@ shared-slice-read-wide-2 c = search needs
 wide-requires-2 : tie.Need-wide-requires-2
 wide-requires-2 c κs = search needs
 
-shared-slice-read-first : tie.Need-shared-slice-read-first
-shared-slice-read-first c = search needs
+shared-slice-read-first-carried : tie.Need-shared-slice-read-first-carried
+shared-slice-read-first-carried c = search needs
 
-first-requires : tie.Need-first-requires
-first-requires c κs = search needs
+first-carried-requires : tie.Need-first-carried-requires
+first-carried-requires c κs = search needs
 
 frames-requires : tie.Need-frames-requires
 frames-requires c κs = omega (arith, c .before .before .before .wide2 .ensures .1, c .frames-arg2 .given)
@@ -49,7 +49,7 @@ frames-requires c κs = omega (arith, c .before .before .before .wide2 .ensures 
 returns-2 : tie.Need-returns-2
 returns-2 c =
     listed-long _ _ _ _ _ _ _ _ (c .before .before .before .before .before .before .before .before .before .if1 .left) refl (c .before .before .before .before .before .before .wide .ensures .0)
-    (c .before .before .before .before .wide2 .ensures .0) (c .before .before .first .ensures) (c .frames .ensures .0) (c .frames .ensures .1)
+    (c .before .before .before .before .wide2 .ensures .0) (c .before .before .first-carried .ensures) (c .frames .ensures .0) (c .frames .ensures .1)
 
 pub list-grids-spec : {M : Type 1} → statement M
 list-grids-spec =
@@ -65,7 +65,7 @@ list-grids-spec =
     wide-requires
     shared-slice-read-wide-2
     wide-requires-2
-    shared-slice-read-first
-    first-requires
+    shared-slice-read-first-carried
+    first-carried-requires
     frames-requires
     returns-2)
