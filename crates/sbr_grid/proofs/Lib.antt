@@ -3,3 +3,4 @@ pub mod Laws
 pub mod Widths
 pub mod Outcomes
 pub mod Slots
+pub mod Number

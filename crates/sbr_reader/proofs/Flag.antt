@@ -4,7 +4,7 @@ use mathlib.Core.Bool.{Bool, true, false}
 use mathlib.Core.List.{List}
 use Prim.Native.Nat.{ℕ, zero, suc, _+_, _-_, _≤_}
 use native.Mathlib.Omega.{arith}
-use borrow.Author.Tests.{ne-eqb, eq-eqb, eqb-true, le-ltb}
+use borrow.Author.Tests.{ne-eqb, eq-eqb, le-ltb}
 use lib.Dec.{eqb}
 use lib.IntN.{ℤ, pos, negsuc, _-ℤ_}
 use lib.ListN.{length, getD}
@@ -15,6 +15,7 @@ use Rattle.sbr_grid.specs.declared.Refusal.the-variants.{SlotCount, Chain}
 use Rattle.sbr_grid.specs.Refusals.{Outcome, answered, refused, unless}
 use Rattle.sbr_grid.specs.Grid.{Grid, numEnv}
 use Rattle.sbr_grid.specs.Times.{Times, isNumber, slotCount}
+use Rattle.sbr_grid.proofs.Number.{number-so, number-is}
 use Rattle.sbr_time_grid.specs.TimeGrid.{byPointer, lA, timeGrid}
 use Rattle.sbr_time_grid.proofs.Ends.{time-passes}
 use Rattle.sbr_writer.proofs.Writable.{both, fields-told}
@@ -47,14 +48,6 @@ by-class FixFix g e h = rw e
 by-class FixVar g e h = rw e (from-end (g .pointer) (numEnv g) h)
 by-class VarFix g e h = rw e (from-start (g .pointer) (numEnv g) h)
 by-class VarVar g e h = rw e (from-end (g .pointer) (numEnv g) h)
-
--- the number of a signed number that is one
-number-is : (z : ℤ) (k : ℕ) → isNumber z k ≡ true → z ≡ pos k
-number-is (pos z) k h = ap pos (eqb-true z k h)
-number-is (negsuc z) k h = let w : _≡_ {A = ℕ} 0 1 = cc in absurd (omega arith)
-
-number-so : (z : ℤ) (k : ℕ) → z ≡ pos k → isNumber z k ≡ true
-number-so z k h = rw h (eq-eqb k k refl)
 
 pub flag-exactly : FlagExactly
 flag-exactly l p n c f h =

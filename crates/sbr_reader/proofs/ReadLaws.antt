@@ -2,13 +2,10 @@
 use mathlib.Core.Path.{_≡_, refl, sym, ap, _∙_}
 use mathlib.Core.Bool.{Bool, true, false}
 use mathlib.Core.List.{List, [], _++_, append-nil}
-use Prim.Native.Nat.{ℕ, suc, _+_, _-_, _^_, _≤_, _<_, min}
+use Prim.Native.Nat.{ℕ, _+_, _-_, _≤_, min}
 use native.Mathlib.Nat.{sub-self}
 use native.Mathlib.Decide.{decLe}
 use native.Mathlib.Omega.{arith}
-use borrow.Author.Tests.{ne-eqb}
-use lib.Dec.{eqb}
-use lib.IntN.{ℤ, pos, negsuc}
 use lib.ListN.{length, getD, length-append}
 use Rattle.bits.specs.Bits.{bitsAt}
 use Rattle.bits.specs.Room.{endOf, bitsFrom, windowOf}
@@ -34,18 +31,6 @@ use Rattle.sbr_reader.specs.declared.Carried.{Carried}
 use Rattle.sbr_reader.specs.declared.FrameRead.{FrameRead}
 use Rattle.sbr_parse.proofs.Inverse.{sent}
 use Rattle.sbr_parse.proofs.Window.{behind, prefix-reads}
-use mir.Syntax.{w32}
-use mir.Val.{SFits, ofZ}
-
--- the bits of a signed number are those of a number below 2 ^ 31 exactly where it is that number
-pub number-bits : (z : ℤ) (k : ℕ) → SFits w32 z → k < 2 ^ 31 → eqb (ofZ w32 z) k ≡ isNumber z k
-number-bits (pos z) k f h = refl
-number-bits (negsuc z) k f h = ne-eqb (2 ^ 32 - suc z) k (λ e. omega arith)
-
--- a signed number that is not the number k
-pub number-not : (z : ℤ) (k : ℕ) → (z ≡ pos k → ⊥) → isNumber z k ≡ false
-number-not (pos z) k h = ne-eqb z k (λ e. h (ap pos e))
-number-not (negsuc z) k h = refl
 
 -- no bits behind what is left
 behind-none : {A : Type 0} (o : Outcome (A × List Bool)) → behind [] o ≡ o

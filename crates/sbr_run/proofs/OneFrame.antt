@@ -22,7 +22,7 @@ use Rattle.sbr_writer.specs.Syntax.{gridBits}
 use Rattle.sbr_writer.specs.Write.{Wrote, writable, writeGrid}
 use Rattle.sbr_parse.specs.Syntax.{sbrGrid}
 use Rattle.sbr_reader.specs.Read.{Accepted, marksEnd, meets, timed, parsed, readGrid, carrying}
-use Rattle.sbr_reader.proofs.ReadLaws.{number-not}
+use Rattle.sbr_grid.proofs.Number.{number-not}
 use Rattle.sbr_onsets.specs.Onsets.{leadOf}
 use Rattle.sbr_encoder.specs.Election.{Elected}
 use Rattle.sbr_encoder.specs.Electable.{Electable}

@@ -67,14 +67,14 @@ record By (r : Terms) (bytes : List ℕ) (c : Receiver) (rs : List Reading) (fs 
   passed : listened (heard c o) rs .position + length (stream (drop (length (noted o (read rs))) fs)) ≡ c .position + length (stream fs)
 
 -- what the first reading gives, where it gives the frame f
-abbrev first : Receiver → Sent → Outcome Accepted
-first c f = answered (got f (c .attack) (c .position))
+abbrev front-read : Receiver → Sent → Outcome Accepted
+front-read c f = answered (got f (c .attack) (c .position))
 
 -- the first reading gives the first frame
 gives : (r : Terms) (bytes : List ℕ) (rs : List Reading) → Hears r bytes rs → (c : Receiver) (f : Sent) (fs : List Sent) (z : State) → GoodChain (r .slots) (c .border) (c .attack) (f ∷ fs) z
-    → Holds bytes (c .position) (stream (f ∷ fs)) → Readings (r .slots) bytes (heard c (first c f)) rs → length (read rs) ≤ length fs → By r bytes c rs (f ∷ fs) z (first c f)
+    → Holds bytes (c .position) (stream (f ∷ fs)) → Readings (r .slots) bytes (heard c (front-read c f)) rs → length (read rs) ≤ length fs → By r bytes c rs (f ∷ fs) z (front-read c f)
 gives r bytes rs ih c f fs z g h own l =
-    let d = ih (heard c (first c f)) fs z (g .1) (holds-past bytes (c .position) (gridBits (f .grid)) (stream fs) h) own l in
+    let d = ih (heard c (front-read c f)) fs z (g .1) (holds-past bytes (c .position) (gridBits (f .grid)) (stream fs) h) own l in
     record {
       frames = ap {B = List Frame} (λ gs. frameOf r (f .grid) (f .time) (c .attack) ∷ gs) (d .frames);
       chain = d .chain;

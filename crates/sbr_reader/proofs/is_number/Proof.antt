@@ -1,6 +1,6 @@
 -- `sbr_reader::is_number` meets its contract.
 use borrow.Author.Needs.{needs}
-use Rattle.sbr_reader.proofs.ReadLaws.{number-bits}
+use Rattle.sbr_grid.proofs.Number.{number-bits}
 use Rattle.sbr_reader.proofs.is_number.Statement.{statement}
 use Rattle.sbr_reader.proofs.is_number.Tie as tie
 
