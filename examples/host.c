@@ -6,6 +6,7 @@
 
 #include <inttypes.h>
 #include <stdio.h>
+#include <string.h>
 
 static const char *const CLASSES[] = {"FixFix", "FixVar", "VarFix", "VarVar"};
 
@@ -17,7 +18,9 @@ static int refused(const char *call, uint32_t number)
 
 int main(void)
 {
-    uint8_t bytes[8] = {0};
+    /* what stands here before does not matter: the rest of the last byte written is cleared */
+    uint8_t bytes[8];
+    memset(bytes, 0xFF, sizeof bytes);
     uint64_t at = 0;
 
     /* one envelope of high resolution; an attack at slot 10: envelopes 0..10, 10..12, 12..16; one envelope whose pointer marks its end; the first again */
@@ -34,7 +37,10 @@ int main(void)
     r = sbr_write_grid(bytes, sizeof bytes, &at, SBR_FIXFIX, 1, high, 1, 0, 0, none, 1, 0, none, 1, 0, 0);
     if (r != 0)
         return refused("write", r);
-    printf("%" PRIu64 " bits: %02X %02X %02X %02X %02X\n", at, bytes[0], bytes[1], bytes[2], bytes[3], bytes[4]);
+    printf("%" PRIu64 " bits:", at);
+    for (uint64_t i = 0; i < (at + 7) / 8; i++)
+        printf(" %02X", bytes[i]);
+    printf("\n");
 
     /* what a receiver carries from frame to frame: position, border, and whether the frame before marks an attack at its very end */
     uint64_t position = 0;

@@ -11,7 +11,8 @@ A case, its numbers low byte first:
   21 bytes record, as in cases.py
   time grid: 8 bytes slot count
   writing:   2 bytes how many bytes of a range of 12 are lent, 1 byte that fills it, 8 bytes bit position
-Its line: borders, noise borders and mark, or the refusal; the position after the bits, or the refusal, and the 12 bytes.
+Its line: borders, noise borders and mark, or the refusal; the position after the bits, or the refusal, and the 12 bytes, of which the rest of the one in
+which the bits end is clear.
 """
 import collections
 import itertools
@@ -141,6 +142,7 @@ def main():
     for case, line in zip(cases, lines.splitlines(), strict=True):
         words = line.split()
         ends['time grid' if case[0] == 1 else 'writing', 'refused ' + words[1] if words[0] == 'refused' else 'answered'] += 1
+        ends['writing', 'answered, fills its last byte'] += words[0] == 'written' and int(words[2]) % 8 == 0
     print(len(cases), 'cases,', len(data), 'bytes:')
     for (kind, end), count in sorted(ends.items()):
         print(f'  {kind}: {end}: {count}')

@@ -18,6 +18,7 @@ A turn, a reading, or a byte that is changed between them:
   8 bytes  slot count
   a turn:  1 byte switch; 2 bytes how many samples are handed in, at most 6,500; all are 0.0 but those listed; 2 bytes how many are
            listed; for each 2 bytes of index and 8 bytes, the bits of a double
+A frame that is sent clears the rest of the byte in which its bits end.
 Its line: the frame that is sent or read, how many numbers its rows hold, whether it begins on an attack, position, border and flag after it, and of a
 frame that is read whether it is the one that was sent; or the refusal. A run ends with a line that has its counts and every byte of the range.
 """
@@ -102,11 +103,11 @@ def main():
         runs.append(mixed(slots, slots + 1, 5, 40, fill=255))
         runs.append(mixed(slots, slots + 2, 13, 40, high=WHOLE, low=(0, 9, 31, 64), fill=0xa5))
         runs.append(mixed(slots, slots + 3, 64, 40, high=(3, 64), low=(3, 64)))
-        # tables that do not fit: every turn is refused by 3
-        runs.append(run([turn(slots, {}), turn(slots, {}), reading(slots, 0)], slots, 0, high=LOW, low=HIGH))
+        # tables that do not fit: every turn is refused by 3, and no bit is cleared
+        runs.append(run([turn(slots, {}), turn(slots, {}), reading(slots, 0)], slots, 3, high=LOW, low=HIGH, fill=255))
         # positions past the range and at the largest number
         for position in (8 * SIZE - 3, 8 * SIZE, 8 * SIZE + 1, 2 ** 63, 2 ** 64 - 1):
-            runs.append(run([turn(slots, onsets((6,))), turn(slots, {}, lent=0), reading(slots)], slots, position))
+            runs.append(run([turn(slots, onsets((6,))), turn(slots, {}, lent=0), reading(slots)], slots, position, fill=255))
     # frames whose bits are changed before they are read, and one after each that is as it was: another mark, another resolution, another count
     for border, sound, at, value in ((17, onsets((4,)), 1, 0x10), (16, {}, 0, 0x00), (16, {}, 0, 0x18)):
         runs.append(run([turn(16, sound), change(at, value), reading(16), turn(16, {}), reading(16)], border, 0))

@@ -272,6 +272,7 @@ fn compare_time(slots: usize, r: &Record, counts: &mut Counts) -> Result<(), Str
     Ok(())
 }
 
+/// The bits of a record are the Rust's, the rest of the byte in which they end is clear, and every other bit is as it was.
 fn compare_write(r: &Record, rng: &mut Rng, counts: &mut Counts) -> Result<(), String> {
     let mut writer = BitWriter::default();
     let writes = r.numbers[5] <= 4 && r.numbers[6] <= 4 && r.numbers[1] <= 5 && oracle::sbr_writer::write_grid(&mut writer, &grid_of(r)).is_ok();
@@ -280,18 +281,16 @@ fn compare_write(r: &Record, rng: &mut Rng, counts: &mut Counts) -> Result<(), S
     let start = if rng.one_in(20) { rng.next() } else { rng.below(8 * len + 4) as u64 };
     let (mut bytes, mut position) = (before.clone(), start);
     let code = port::write_grid(&mut bytes, &mut position, r);
-    let fits = start <= 8 * len as u64 && writer.width as u64 <= 8 * len as u64 - start;
-    let wanted = if !writes { 5 } else if fits { 0 } else { 4 };
-    count(counts, ["writes", "", "", "", "writes refused for room", "writes refused"][wanted as usize]);
     let mut expected = before;
-    if wanted == 0 {
-        for i in 0..writer.width {
-            let at = start as usize + i as usize;
-            let bit = (writer.value >> (writer.width - 1 - i) & 1) as u8;
-            expected[at / 8] = expected[at / 8] & !(128 >> (at % 8)) | bit << (7 - at % 8);
-        }
+    let (wanted, end) = match writes.then(|| oracle::put(&mut expected, start, &writer)) {
+        None => (5, start),
+        Some(None) => (4, start),
+        Some(Some(end)) => (0, end),
+    };
+    count(counts, ["writes", "", "", "", "writes refused for room", "writes refused"][wanted as usize]);
+    if wanted == 0 && end % 8 == 0 {
+        count(counts, "writes that fill their last byte");
     }
-    let end = if wanted == 0 { start + writer.width as u64 } else { start };
     if code != wanted || position != end || bytes != expected {
         return Err(format!("writing {r:?} at {start} of {len} bytes: {wanted} wanted, program {code}, position {position}, bytes {bytes:02x?} for {expected:02x?}"));
     }

@@ -13,7 +13,7 @@
 #include <sys/mman.h>
 #include <unistd.h>
 
-enum { MAX_BYTES = 24, RANGES = 4, KINDS = 4, NUMBERS_SIZE = SBR_NUMBERS * 4 };
+enum { MAX_BYTES = 24, BESIDE = 16, RANGES = 4, KINDS = 4, NUMBERS_SIZE = SBR_NUMBERS * 4 };
 
 static const char *const KIND_NAMES[KINDS] = {"random bytes", "streams", "truncated streams", "damaged streams"};
 
@@ -146,19 +146,29 @@ static uint32_t write_some(uint8_t *bytes, size_t length, uint64_t *position, in
     return sbr_write_grid(bytes, length, position, class, n, freq_res, flags, b0, b1, first, rel_0, n0, second, rel_1, n1, pointer);
 }
 
-static uint64_t written, unwritten[10], answers[10], kinds[KINDS], ended_on_attack, began_on_attack;
+static uint64_t written, filled, unwritten[10], answers[10], kinds[KINDS], ended_on_attack, began_on_attack;
 
-/* A write into a range of random length at any position: bits outside those written are kept, a refusal changes nothing. */
+/* The bytes of a page beside a range, on the side that is not guarded. */
+static uint8_t *beside(uint8_t *bytes, size_t length, int at_end) { return at_end ? bytes - BESIDE : bytes + length; }
+
+/*
+ * A write into a range of random length at any position: the rest of the byte in which it ends is clear, every other bit that is not its own is kept, also
+ * beside the range; a refusal changes nothing.
+ */
 static void try_write(uint64_t number)
 {
     int at_end = one_in(2);
     size_t length = (size_t)below(9);
-    uint8_t *bytes = range(in_memory[0], length, at_end), before[8];
+    uint8_t *bytes = range(in_memory[0], length, at_end), before[8], outside[BESIDE];
     memcpy(before, bytes, length);
+    for (size_t i = 0; i < BESIDE; i++)
+        outside[i] = beside(bytes, length, at_end)[i] = (uint8_t)next();
     uint64_t *position = (uint64_t *)(void *)range(out_memory[0], 8, at_end);
     uint64_t start = one_in(8) ? next() : below(8 * length + 2);
     *position = start;
     uint32_t r = write_some(bytes, length, position, at_end);
+    if (memcmp(beside(bytes, length, at_end), outside, BESIDE) != 0)
+        fail("a write changed a byte beside its range", number);
     if (r != 0) {
         if (r > 9 || *position != start || memcmp(bytes, before, length) != 0)
             fail("a refused write changed something", number);
@@ -167,10 +177,16 @@ static void try_write(uint64_t number)
     }
     if (*position <= start || *position > 8 * length)
         fail("a write ended outside its range", number);
-    for (uint64_t i = 0; i < 8 * length; i++)
-        if ((i < start || i >= *position) && ((bytes[i / 8] ^ before[i / 8]) >> (7 - i % 8) & 1))
+    uint64_t last = (*position - 1) / 8;
+    for (uint64_t i = 0; i < 8 * length; i++) {
+        int bit = bytes[i / 8] >> (7 - i % 8) & 1, old = before[i / 8] >> (7 - i % 8) & 1;
+        if (i >= *position && i / 8 == last && bit != 0)
+            fail("a write left a bit set in the rest of its last byte", number);
+        if ((i < start || i / 8 > last) && bit != old)
             fail("a write changed another bit", number);
+    }
     written++;
+    filled += *position % 8 == 0;
 }
 
 /* Reads until a refusal, which must leave everything as it was; the flag that a frame leaves is handed in to the next reading. */
@@ -268,7 +284,7 @@ int main(int argc, char **argv)
     printf("damage: seed %s, %" PRIu64 " writes and %" PRIu64 " inputs read to their first refusal, nothing outside a range touched\n", argv[2], cases, cases);
     for (int i = 0; i < KINDS; i++)
         printf("  %s: %" PRIu64 "\n", KIND_NAMES[i], kinds[i]);
-    printf("writes answered: %" PRIu64 "\n", written);
+    printf("writes answered: %" PRIu64 ", of which %" PRIu64 " fill their last byte\n", written, filled);
     print_counts("writes refused, by number", unwritten);
     print_counts("readings by number (0: a frame)", answers);
     printf("frames that mark an attack at their very end: %" PRIu64 ", that begin on one: %" PRIu64 "\n", ended_on_attack, began_on_attack);

@@ -8,6 +8,24 @@ pub enum Error {
 
 pub type Result<T> = std::result::Result<T, Error>;
 
+/// Puts the bits that the Rust wrote at a position of a range, clears the rest of the byte in which they end, and answers the position after them; nothing
+/// where the range has too little room. The Rust has no such rule; it is the order's.
+pub fn put(bytes: &mut [u8], position: u64, writer: &oxideav_core::bits::BitWriter) -> Option<u64> {
+    let bits = 8 * bytes.len() as u64;
+    if position > bits || u64::from(writer.width) > bits - position {
+        return None;
+    }
+    let (start, end) = (position as usize, position as usize + writer.width as usize);
+    for at in start..end {
+        let bit = (writer.value >> (end - 1 - at) & 1) as u8;
+        bytes[at / 8] = bytes[at / 8] & !(128 >> (at % 8)) | bit << (7 - at % 8);
+    }
+    for at in end..end.next_multiple_of(8) {
+        bytes[at / 8] &= !(128 >> (at % 8));
+    }
+    Some(end as u64)
+}
+
 #[allow(dead_code)]
 pub mod sbr_grid {
     include!(concat!(env!("SBR_CUT"), "/sbr_grid.rs"));

@@ -10,7 +10,7 @@ use std::io::{Read, Write};
 
 use oracle::sbr_encoder::SbrEncoder;
 use oracle::sbr_qmf::Complex;
-use oracle::{sbr_grid, sbr_time_grid};
+use oracle::{put, sbr_grid, sbr_time_grid};
 use oxideav_core::bits::{BitReader, BitWriter};
 extern crate oxideav_core;
 
@@ -296,20 +296,6 @@ fn elections(all: &[u8]) -> String {
         out.push('\n');
     }
     out
-}
-
-/// Writes the bits of a grid at a position of a range, or says that it has too little room; answers the position after them.
-fn put(bytes: &mut [u8], position: u64, writer: &BitWriter) -> Option<u64> {
-    let bits = 8 * bytes.len() as u64;
-    if position > bits || u64::from(writer.width) > bits - position {
-        return None;
-    }
-    for i in 0..writer.width {
-        let at = position as usize + i as usize;
-        let bit = (writer.value >> (writer.width - 1 - i) & 1) as u8;
-        bytes[at / 8] = bytes[at / 8] & !(128 >> (at % 8)) | bit << (7 - at % 8);
-    }
-    Some(position + u64::from(writer.width))
 }
 
 fn hex(bytes: &[u8]) -> String {

@@ -1,33 +1,77 @@
--- The bits after those that are put are kept.
+-- What bits that are put leave: these, the rest of the byte in which they end clear, every other bit as it was.
 use mathlib.Core.Path.{_≡_, refl, _∙_}
-use mathlib.Core.Bool.{Bool}
-use mathlib.Core.List.{List, [], _∷_}
-use Prim.Native.Nat.{ℕ, suc, _+_, _-_, _*_, _/_, _%_, _^_, _<_, _≤_}
-use native.Mathlib.Nat.{mod-lt}
+use mathlib.Core.Bool.{Bool, true, false, cond}
+use mathlib.Core.List.{List, [], _∷_, _++_}
+use Prim.Native.Nat.{ℕ, zero, suc, _+_, _-_, _*_, _/_, _<_, _≤_}
+use native.Mathlib.Decide.{ℕ-discrete}
 use native.Mathlib.Omega.{arith}
-use lib.ListN.{length}
-use lib.Pow.{pow-pos, low}
-use Rattle.bits.specs.Bits.{bitN, bitAt, withBit, getBit, putBit, putBits, bitsAt}
-use Rattle.bits.proofs.Numbers.{bit-low}
-use Rattle.bits.proofs.Stream.{get-kept, bits-alike}
+use lib.ListN.{length, getD, replicate, length-append, length-replicate}
+use lib.Seq.{getD-set-other}
+use borrow.Author.Tests.{le-leb}
+use Rattle.bits.specs.Bits.{getBit, setBit, setBits, bitsOf, restOf, putBits}
+use Rattle.bits.specs.Room.{endOf, roomFor, afterField}
+use Rattle.bits.specs.Put.{BitsPut, EveryField}
+use Rattle.bits.proofs.Numbers.{length-bitsOf}
+use Rattle.bits.proofs.Stream.{length-setBit, length-setBits, set-append, get-same, get-before, kept-before, bits-set}
+use Rattle.bits.proofs.Put.{put-set, put-append}
 
--- the digits below a bit that is made another
-with-low : (x k : ℕ) (b : Bool) → withBit x k b % 2 ^ k ≡ x % 2 ^ k
-unfolding withBit
-with-low x k b = low (x / 2 ^ k / 2 * 2 + bitN b) k (mod-lt x (pow-pos k))
+-- a bit that is cleared is clear
+get-clear : (l : List ℕ) (p q n : ℕ) → p ≤ q → q < p + n → p + n ≤ 8 * length l → getBit (setBits l p (replicate n false)) q ≡ false
+unfolding setBits
+get-clear l p q zero a b h = absurd (omega arith)
+get-clear l p q (suc n) a b h =
+    go (ℕ-discrete q p) (λ k. get-clear (setBit l p false) (suc p) q n k (omega arith) (omega (arith, length-setBit l p false)))
+  where
+    go : Dec (q ≡ p) → (suc p ≤ q → getBit (setBits (setBit l p false) (suc p) (replicate n false)) q ≡ false)
+        → getBit (setBits (setBit l p false) (suc p) (replicate n false)) q ≡ false
+    go (yes e) f = rw e (get-before (setBit l p false) (suc p) p (replicate n false) (omega arith) ∙ get-same l p false (omega arith))
+    go (no e) f = f (omega arith)
 
--- a bit below it is kept
-bit-below : (x k j : ℕ) (b : Bool) → j < k → bitAt (withBit x k b) j ≡ bitAt x j
-bit-below x k j b h = rw (← bit-low (withBit x k b) j k h, with-low x k b, bit-low x j k h)
+-- a byte after those in which bits are made others is kept
+byte-kept : (l : List ℕ) (p i : ℕ) (bs : List Bool) → p + length bs ≤ 8 * i → getD (setBits l p bs) i 0 ≡ getD l i 0
+unfolding setBits setBit
+byte-kept l p i [] h = refl
+byte-kept l p i (b ∷ bs) h = byte-kept (setBit l p b) (suc p) i bs (omega arith) ∙ getD-set-other l (p / 8) i _ 0 (λ e. omega arith)
 
--- a bit after those that are put is kept
-get-after : (l : List ℕ) (p q : ℕ) (bs : List Bool) → p + length bs ≤ q → getBit (putBits l p bs) q ≡ getBit l q
+-- bits that are put leave as many bytes as there were
+pub length-putBits : (l : List ℕ) (p : ℕ) (bs : List Bool) → length (putBits l p bs) ≡ length l
 unfolding putBits
-get-after l p q [] h = refl
-get-after l p q (b ∷ bs) h =
-    get-after (putBit l p b) (suc p) q bs (omega arith)
-    ∙ get-kept l p q b (λ e x. bit-below x (7 - p % 8) (7 - q % 8) b (omega arith))
+length-putBits l p [] = refl
+length-putBits l p (b ∷ bs) = length-setBits l p _
 
--- the bits after those that are put are kept
-pub kept-after : (l : List ℕ) (p q n : ℕ) (bs : List Bool) → p + length bs ≤ q → bitsAt (putBits l p bs) q n ≡ bitsAt l q n
-kept-after l p q n bs h = bits-alike l (putBits l p bs) q n (λ i a b. get-after l p i bs (omega arith))
+-- what bits that are put leave
+pub bits-put : (l : List ℕ) (p : ℕ) (bs : List Bool) → 0 < length bs → p + length bs ≤ 8 * length l → BitsPut l (putBits l p bs) p bs
+bits-put l p bs some h =
+    let e = p + length bs in
+    let n = restOf e in
+    let zs = replicate n false in
+    let len = length-setBits l p bs in
+    let f = put-set l p bs some in
+    let two = f ∙ set-append l p bs zs in
+    record {
+      within = h;
+      bits = rw two (kept-before (setBits l p bs) e p (length bs) zs (omega arith) ∙ bits-set l p bs h);
+      rest = λ q a b. rw two (get-clear (setBits l p bs) e q n a (omega arith) (omega (arith, len)));
+      before = λ q a. rw f (get-before l p q (bs ++ zs) a);
+      past = λ i a. rw f (byte-kept l p i (bs ++ zs) (omega (arith, length-append bs zs, length-replicate n false)));
+      size = length-putBits l p bs;
+    }
+
+-- what a field leaves
+field-put : (l : List ℕ) (p w v : ℕ) → 0 < w → w ≤ 32 → p + w ≤ endOf (length l) → BitsPut l (afterField l p w v) p (bitsOf w v)
+unfolding roomFor endOf
+field-put l p w v some a b =
+    let len = length-bitsOf w v in
+    rw (le-leb w 32 a, le-leb (p + w) (endOf (length l)) b) (bits-put l p (bitsOf w v) (omega (arith, len)) (omega (arith, len)))
+
+-- whether or not there is room for no bits, nothing is put
+no-bits : (l : List ℕ) (p v : ℕ) → afterField l p 0 v ≡ l
+unfolding putBits bitsOf
+no-bits l p v = go (roomFor (length l) p 0)
+  where
+    go : (b : Bool) → cond b l l ≡ l
+    go true = refl
+    go false = refl
+
+pub every-field : EveryField
+every-field = record { put = field-put; no-bits = no-bits; append = put-append }

@@ -1,4 +1,4 @@
--- Bits of a list of bytes: what is put is read back, and the bits before it are kept.
+-- Bits of a list of bytes that are made others are read back, and the bits before them are kept.
 use mathlib.Core.Path.{_≡_, refl, ap, _∙_}
 use mathlib.Core.Bool.{Bool}
 use mathlib.Core.List.{List, [], _∷_, _++_}
@@ -8,19 +8,19 @@ use native.Mathlib.Decide.{decLt, ℕ-discrete}
 use native.Mathlib.Omega.{arith}
 use lib.ListN.{length, getD, length-set}
 use lib.Seq.{getD-set-same, getD-set-other, set-out}
-use Rattle.bits.specs.Bits.{bitAt, withBit, getBit, putBit, putBits, bitsAt}
+use Rattle.bits.specs.Bits.{bitAt, withBit, getBit, setBit, setBits, bitsAt}
 use Rattle.bits.proofs.Bytes.{bit-same, bit-above}
 
--- a bit that is put leaves as many bytes as there were
-length-putBit : (l : List ℕ) (p : ℕ) (b : Bool) → length (putBit l p b) ≡ length l
-unfolding putBit
-length-putBit l p b = simp length-set
+-- a bit that is made another leaves as many bytes as there were
+pub length-setBit : (l : List ℕ) (p : ℕ) (b : Bool) → length (setBit l p b) ≡ length l
+unfolding setBit
+length-setBit l p b = simp length-set
 
--- bits that are put leave as many bytes as there were
-pub length-putBits : (l : List ℕ) (p : ℕ) (bs : List Bool) → length (putBits l p bs) ≡ length l
-unfolding putBits
-length-putBits l p [] = refl
-length-putBits l p (b ∷ bs) = length-putBits (putBit l p b) (suc p) bs ∙ length-putBit l p b
+-- bits that are made others leave as many bytes as there were
+pub length-setBits : (l : List ℕ) (p : ℕ) (bs : List Bool) → length (setBits l p bs) ≡ length l
+unfolding setBits
+length-setBits l p [] = refl
+length-setBits l p (b ∷ bs) = length-setBits (setBit l p b) (suc p) bs ∙ length-setBit l p b
 
 -- n bits that are read are n bits
 pub length-bitsAt : (l : List ℕ) (p n : ℕ) → length (bitsAt l p n) ≡ n
@@ -29,10 +29,10 @@ length-bitsAt l p zero = refl
 length-bitsAt l p (suc n) = ap suc (length-bitsAt l (suc p) n)
 
 -- one list of bits after another
-pub put-append : (l : List ℕ) (p : ℕ) (xs bs : List Bool) → putBits l p (xs ++ bs) ≡ putBits (putBits l p xs) (p + length xs) bs
-unfolding putBits
-put-append l p [] bs = rw add-zero
-put-append l p (a ∷ xs) bs = rw (add-suc, ← suc-add p (length xs)) (put-append (putBit l p a) (suc p) xs bs)
+pub set-append : (l : List ℕ) (p : ℕ) (xs bs : List Bool) → setBits l p (xs ++ bs) ≡ setBits (setBits l p xs) (p + length xs) bs
+unfolding setBits
+set-append l p [] bs = rw add-zero
+set-append l p (a ∷ xs) bs = rw (add-suc, ← suc-add p (length xs)) (set-append (setBit l p a) (suc p) xs bs)
 
 -- m bits are read and then n
 pub bitsAt-add : (l : List ℕ) (p m n : ℕ) → bitsAt l p (m + n) ≡ bitsAt l p m ++ bitsAt l (p + m) n
@@ -47,37 +47,37 @@ bits-alike l m q zero f = refl
 bits-alike l m q (suc n) f =
     rw (f q (omega arith) (omega arith), bits-alike l m (suc q) n (λ i h k. f i (omega arith) (omega arith)))
 
--- the bit that was put is read back
-pub get-same : (l : List ℕ) (p : ℕ) (b : Bool) → p / 8 < length l → getBit (putBit l p b) p ≡ b
-unfolding getBit putBit
+-- a bit is read back
+pub get-same : (l : List ℕ) (p : ℕ) (b : Bool) → p / 8 < length l → getBit (setBit l p b) p ≡ b
+unfolding getBit setBit
 get-same l p b h = rw getD-set-same (bit-same (getD l (p / 8) 0) (7 - p % 8) b)
 
 -- a bit is kept where it is kept within its byte
-pub get-kept : (l : List ℕ) (p q : ℕ) (b : Bool)
-    → (q / 8 ≡ p / 8 → (x : ℕ) → bitAt (withBit x (7 - p % 8) b) (7 - q % 8) ≡ bitAt x (7 - q % 8)) → getBit (putBit l p b) q ≡ getBit l q
-unfolding getBit putBit
+get-kept : (l : List ℕ) (p q : ℕ) (b : Bool)
+    → (q / 8 ≡ p / 8 → (x : ℕ) → bitAt (withBit x (7 - p % 8) b) (7 - q % 8) ≡ bitAt x (7 - q % 8)) → getBit (setBit l p b) q ≡ getBit l q
+unfolding getBit setBit
 get-kept l p q b f = go (ℕ-discrete (q / 8) (p / 8)) (decLt (p / 8) (length l))
   where
-    go : Dec (q / 8 ≡ p / 8) → Dec (p / 8 < length l) → getBit (putBit l p b) q ≡ getBit l q
+    go : Dec (q / 8 ≡ p / 8) → Dec (p / 8 < length l) → getBit (setBit l p b) q ≡ getBit l q
     go (no n) d = rw (getD-set-other l (p / 8) (q / 8) (withBit (getD l (p / 8) 0) (7 - p % 8) b) 0 n)
     go (yes e) (no n) = rw (set-out l (p / 8) (withBit (getD l (p / 8) 0) (7 - p % 8) b) (omega arith))
     go (yes e) (yes h) = rw (e, getD-set-same) (f e (getD l (p / 8) 0))
 
--- a bit before those that are put is kept
-get-before : (l : List ℕ) (p q : ℕ) (bs : List Bool) → q < p → getBit (putBits l p bs) q ≡ getBit l q
-unfolding putBits
+-- a bit before those that are made others is kept
+pub get-before : (l : List ℕ) (p q : ℕ) (bs : List Bool) → q < p → getBit (setBits l p bs) q ≡ getBit l q
+unfolding setBits
 get-before l p q [] h = refl
 get-before l p q (b ∷ bs) h =
-    get-before (putBit l p b) (suc p) q bs (omega arith)
+    get-before (setBit l p b) (suc p) q bs (omega arith)
     ∙ get-kept l p q b (λ e x. bit-above x (7 - p % 8) (7 - q % 8) b (omega arith))
 
--- the bits before those that are put are kept
-pub kept-before : (l : List ℕ) (p q n : ℕ) (bs : List Bool) → q + n ≤ p → bitsAt (putBits l p bs) q n ≡ bitsAt l q n
-kept-before l p q n bs h = bits-alike l (putBits l p bs) q n (λ i a b. get-before l p i bs (omega arith))
+-- the bits before them are kept
+pub kept-before : (l : List ℕ) (p q n : ℕ) (bs : List Bool) → q + n ≤ p → bitsAt (setBits l p bs) q n ≡ bitsAt l q n
+kept-before l p q n bs h = bits-alike l (setBits l p bs) q n (λ i a b. get-before l p i bs (omega arith))
 
--- what is put is read back
-pub bits-put : (l : List ℕ) (p : ℕ) (bs : List Bool) → p + length bs ≤ 8 * length l → bitsAt (putBits l p bs) p (length bs) ≡ bs
-unfolding putBits bitsAt
-bits-put l p [] h = refl
-bits-put l p (b ∷ bs) h =
-    rw (get-before (putBit l p b) (suc p) p bs (omega arith), get-same l p b (omega arith), bits-put (putBit l p b) (suc p) bs (omega (arith, length-putBit l p b)))
+-- they are read back
+pub bits-set : (l : List ℕ) (p : ℕ) (bs : List Bool) → p + length bs ≤ 8 * length l → bitsAt (setBits l p bs) p (length bs) ≡ bs
+unfolding setBits bitsAt
+bits-set l p [] h = refl
+bits-set l p (b ∷ bs) h =
+    rw (get-before (setBit l p b) (suc p) p bs (omega arith), get-same l p b (omega arith), bits-set (setBit l p b) (suc p) bs (omega (arith, length-setBit l p b)))

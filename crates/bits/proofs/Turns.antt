@@ -1,4 +1,4 @@
--- Bits of one byte put and read at once, and one turn of a loop that goes byte by byte.
+-- Bits of one byte read at once, and one turn of a loop that goes byte by byte.
 use mathlib.Core.Path.{_≡_, refl, ap, _∙_}
 use mathlib.Core.Bool.{Bool}
 use mathlib.Core.List.{List, _++_}
@@ -8,29 +8,11 @@ use native.Mathlib.Omega.{arith}
 use lib.Arith.{digits-lt}
 use lib.Pow.{pow-add, high, low}
 use lib.ListN.{length, getD, set}
-use lib.Seq.{getD-set-same, set-getD, set-set, lt-length-set}
-use Rattle.bits.specs.Bits.{bitAt, withBit, getBit, putBit, putBits, bitsAt, bitsOf, numFrom, numOf}
+use Rattle.bits.specs.Bits.{getBit, putBits, bitsAt, bitsOf, numFrom, numOf}
 use Rattle.bits.proofs.Numbers.{bit-high, bitsOf-split, length-bitsOf, num-after, num-append, num-from, num-lt}
-use Rattle.bits.proofs.Bytes.{withField, field-none, field-next}
-use Rattle.bits.proofs.Stream.{put-append, length-bitsAt, bitsAt-add}
-
--- the bit r of the byte i, with k bits after it
-put-first : (l : List ℕ) (i r k : ℕ) (b : Bool) → r + suc k ≡ 8 → putBit l (8 * i + r) b ≡ set l i (withBit (getD l i 0) k b)
-unfolding putBit
-put-first l i r k b e =
-    let q : (8 * i + r) / 8 ≡ i = omega arith in
-    let s : 7 - (8 * i + r) % 8 ≡ k = omega arith in
-    rw (q, s)
-
--- n bits put from the bit r of the byte i on, with k bits after them
-put-within : (l : List ℕ) (i r n k v : ℕ) → i < length l → r + n + k ≡ 8
-    → putBits l (8 * i + r) (bitsOf n v) ≡ set l i (withField (getD l i 0) k n v)
-unfolding putBits bitsOf
-put-within l i r zero k v h e = rw (field-none (getD l i 0) k v, set-getD l i 0)
-put-within l i r (suc n) k v h e =
-    let w = withBit (getD l i 0) (k + n) (bitAt v n) in
-    ap (λ (m : List ℕ). putBits m (suc (8 * i + r)) (bitsOf n v)) (put-first l i r (k + n) (bitAt v n) (omega arith))
-    ∙ rw (← add-suc (8 * i) r, put-within (set l i w) i (suc r) n k v (lt-length-set l i w h) (omega arith), getD-set-same l i w 0 h, field-next (getD l i 0) k n v, set-set)
+use Rattle.bits.proofs.Bytes.{withField}
+use Rattle.bits.proofs.Stream.{length-bitsAt, bitsAt-add}
+use Rattle.bits.proofs.Put.{put-byte, put-append}
 
 -- n bits from the bit r of the byte i on, with k bits after them, are those of the byte above its k lowest
 bits-within : (l : List ℕ) (i r n k : ℕ) → r + n + k ≡ 8 → bitsAt l (8 * i + r) n ≡ bitsOf n (getD l i 0 / 2 ^ k)
@@ -40,13 +22,6 @@ bits-within l i r (suc n) k e =
     let q : (8 * i + r) / 8 ≡ i = omega arith in
     let s : 7 - (8 * i + r) % 8 ≡ k + n = omega arith in
     rw (q, s, bit-high (getD l i 0) k n, ← add-suc (8 * i) r, bits-within l i (suc r) n k (omega arith))
-
--- n bits that stand in one byte are put at once
-pub put-byte : (l : List ℕ) (p n v : ℕ) → n ≤ 8 - p % 8 → p / 8 < length l
-    → putBits l p (bitsOf n v) ≡ set l (p / 8) (withField (getD l (p / 8) 0) (8 - p % 8 - n) n v)
-put-byte l p n v h k =
-    let e : 8 * (p / 8) + p % 8 ≡ p = omega arith in
-    rw e at (put-within l (p / 8) (p % 8) n (8 - p % 8 - n) v k (omega arith))
 
 -- n bits that stand in one byte are read at once
 pub bits-byte : (l : List ℕ) (p n : ℕ) → n ≤ 8 - p % 8 → bitsAt l p n ≡ bitsOf n (getD l (p / 8) 0 / 2 ^ (8 - p % 8 - n))
@@ -64,12 +39,13 @@ pub get-byte : (l : List ℕ) (p n : ℕ) → n ≤ 8 - p % 8 → numOf (bitsAt 
 get-byte l p n h = num-byte l 0 p n h ∙ omega arith
 
 -- one turn of a loop that puts k bits of v: n of them in the byte at p, and the rest after them
-pub put-turn : (l : List ℕ) (p n k v : ℕ) → n ≤ 8 - p % 8 → p / 8 < length l → n ≤ k
+pub put-turn : (l : List ℕ) (p n k v : ℕ) → 0 < n → n ≤ 8 - p % 8 → p / 8 < length l → n ≤ k
     → putBits l p (bitsOf k v) ≡ putBits (set l (p / 8) (withField (getD l (p / 8) 0) (8 - p % 8 - n) n (v / 2 ^ (k - n)))) (p + n) (bitsOf (k - n) v)
-put-turn l p n k v h i j =
+put-turn l p n k v z h i j =
     let e : k ≡ n + (k - n) = omega arith in
+    let len = length-bitsOf n (v / 2 ^ (k - n)) in
     ap (λ (m : ℕ). putBits l p (bitsOf m v)) e
-    ∙ rw (bitsOf-split n (k - n) v, put-append, length-bitsOf, put-byte l p n (v / 2 ^ (k - n)) h i)
+    ∙ rw (bitsOf-split n (k - n) v, put-append l p (bitsOf n (v / 2 ^ (k - n))) (bitsOf (k - n) v) (omega (arith, len)), len, put-byte l p n (v / 2 ^ (k - n)) z h i)
 
 -- one turn of a loop that reads k bits after the digits of a
 pub get-turn : (l : List ℕ) (a p n k : ℕ) → n ≤ 8 - p % 8 → n ≤ k

@@ -1,9 +1,9 @@
 -- Bits of a list of bytes, the most significant bit of a byte first (docs/ORDER.md, WR-2).
 use mathlib.Core.Bool.{Bool, true, false}
-use mathlib.Core.List.{List, [], _∷_}
+use mathlib.Core.List.{List, [], _∷_, _++_}
 use Prim.Native.Nat.{ℕ, zero, suc, _+_, _-_, _*_, _/_, _%_, _^_}
 use lib.Dec.{eqb}
-use lib.ListN.{getD, set}
+use lib.ListN.{length, getD, set, replicate}
 
 abbrev pub bitN : Bool → ℕ
 bitN true = 1
@@ -22,18 +22,28 @@ unfoldable pub getBit : List ℕ → ℕ → Bool
 getBit l p = bitAt (getD l (p / 8) 0) (7 - p % 8)
 
 -- the list with the bit at the position p made b
-unfoldable pub putBit : List ℕ → ℕ → Bool → List ℕ
-putBit l p b = set l (p / 8) (withBit (getD l (p / 8) 0) (7 - p % 8) b)
+unfoldable pub setBit : List ℕ → ℕ → Bool → List ℕ
+setBit l p b = set l (p / 8) (withBit (getD l (p / 8) 0) (7 - p % 8) b)
 
 -- the list with the bits from the position p on made those of the list of bits
-unfoldable pub putBits : List ℕ → ℕ → List Bool → List ℕ
-putBits l p [] = l
-putBits l p (b ∷ bs) = putBits (putBit l p b) (suc p) bs
+unfoldable pub setBits : List ℕ → ℕ → List Bool → List ℕ
+setBits l p [] = l
+setBits l p (b ∷ bs) = setBits (setBit l p b) (suc p) bs
 
 -- the n bits from the position p on
 unfoldable pub bitsAt : List ℕ → ℕ → ℕ → List Bool
 bitsAt l p zero = []
 bitsAt l p (suc n) = getBit l p ∷ bitsAt l (suc p) n
+
+-- how many bits there are from the position e to the end of the byte of the bit before e; none where e begins a byte
+abbrev pub restOf : ℕ → ℕ
+restOf e = (8 - e % 8) % 8
+
+-- the list after bits are put at the position p: these, and the bits from their end to the end of the byte in which they end cleared; every other bit as it
+-- was. No bits end in no byte, so that nothing is cleared
+unfoldable pub putBits : List ℕ → ℕ → List Bool → List ℕ
+putBits l p [] = l
+putBits l p (b ∷ bs) = setBits l p ((b ∷ bs) ++ replicate (restOf (p + length (b ∷ bs))) false)
 
 -- the n low bits of a number, the most significant first
 unfoldable pub bitsOf : ℕ → ℕ → List Bool

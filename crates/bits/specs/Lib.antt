@@ -1,2 +1,3 @@
 pub mod Bits
 pub mod Room
+pub mod Put

@@ -29,18 +29,16 @@ fn below(pos: usize, n: u32) -> u32
     8 - (pos % 8) as u32 - n
 }
 
-// A byte whose n bits above the k lowest are made the n lowest of v.
+// A byte whose n bits above the k lowest are made the n lowest of v, and the k lowest cleared.
 fn with_field(x: u8, k: u32, n: u32, v: u32) -> u8
     requires { ⌜ k + n ≤ 8 ⌝ }
-    ensures { λ r. ⌜ r ≡ (x / 2 ^ (k + n) * 2 ^ n + v % 2 ^ n) * 2 ^ k + x % 2 ^ k ⌝ }
+    ensures { λ r. ⌜ r ≡ (x / 2 ^ (k + n) * 2 ^ n + v % 2 ^ n) * 2 ^ k ⌝ }
 {
-    let byte = x as u32;
-    let low = pow2(k);
     let wide = pow2(n);
-    ((byte / pow2(k + n) * wide + v % wide) * low + byte % low) as u8
+    ((x as u32 / pow2(k + n) * wide + v % wide) * pow2(k)) as u8
 }
 
-// The `width` low bits of a value from a position on, byte by byte.
+// The `width` low bits of a value from a position on, byte by byte; the rest of the last byte is cleared.
 pub fn put(buf: &mut [u8], pos: usize, value: u32, width: u32)
     requires { ⌜ (width ≤ 32) × (pos + width ≤ endOf (length (now buf))) ⌝ }
     ensures { λ _. ⌜ now (buf .exit) ≡ putBits (now (buf .entry)) pos (bitsOf width value) ⌝ }

@@ -40,7 +40,8 @@ pub fn has_room(len: usize, pos: usize, n: usize) -> bool
     n <= end - pos
 }
 
-// The `width` low bits of a value are put at a position; every other bit is kept.
+// The `width` low bits of a value are put at a position, and the rest of the byte in which they end is cleared; every other bit is kept. A field of no
+// bits puts and clears nothing.
 pub fn put_bits(buf: &mut [u8], pos: usize, value: u32, width: u32) -> Placed
     ensures answer { λ r. ⌜ r ≡ placed (now (buf .entry)) pos width ⌝ }
     ensures bytes { λ _. ⌜ now (buf .exit) ≡ afterField (now (buf .entry)) pos width value ⌝ }

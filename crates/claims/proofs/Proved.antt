@@ -1,7 +1,9 @@
 -- The claims hold.
 use Rattle.claims.specs.Claims.{Claims}
+use Rattle.bits.proofs.After.{every-field}
 use Rattle.sbr_grid.proofs.Widths.{pointer-width}
 use Rattle.sbr_time_grid.proofs.Ends.{ends-near}
+use Rattle.sbr_writer.proofs.Puts.{every-write}
 use Rattle.sbr_parse.proofs.Inverse.{reads-back, writes-back}
 use Rattle.sbr_reader.proofs.Frames.{frame-writes}
 use Rattle.sbr_reader.proofs.Flag.{flag-exactly, flag-only-told}
@@ -26,6 +28,8 @@ pub claims : Claims
 claims = record {
   elections-unread = elections-unread;
   energies-unread = energies-unread;
+  every-field = every-field;
+  every-write = every-write;
   enough-input = enough-input;
   settled-input = settled-input;
   flag-unprinted = flag-unprinted;

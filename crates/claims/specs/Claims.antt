@@ -1,7 +1,9 @@
 -- Every claim that belongs to no function, a field each, in the order of the three terms. Each stands in the crate that proves it; proofs/Proved.antt
 -- gives them, so that none can be lost.
+use Rattle.bits.specs.Put.{EveryField}
 use Rattle.sbr_grid.specs.Grid.{PointerWidth}
 use Rattle.sbr_time_grid.specs.TimeGrid.{EndsNear}
+use Rattle.sbr_writer.specs.Write.{EveryWrite}
 use Rattle.sbr_parse.specs.Inverse.{ReadsBack, WritesBack}
 use Rattle.sbr_reader.specs.Inverse.{FrameWrites}
 use Rattle.sbr_reader.specs.Flag.{FlagExactly, FlagOnlyTold}
@@ -25,6 +27,9 @@ pub record Claims : Type 1 where
   -- samples in columns 0 and 1, in bands outside the high table and past the columns that are needed affect no answer
   pub elections-unread : ElectionsUnread
   pub energies-unread : EnergiesUnread
+  -- a field, and a grid, leave the rest of the byte in which they end clear and every other bit as it was
+  pub every-field : EveryField
+  pub every-write : EveryWrite
   -- bytes past the 832 that 255 frames need change no listing, nor does more input once every frame is there
   pub enough-input : EnoughInput
   pub settled-input : SettledInput

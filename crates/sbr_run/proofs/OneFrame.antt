@@ -1,25 +1,22 @@
 -- One frame: what a turn that answers says, and that a receiver which stands at its bits reads it.
 use mathlib.Core.Path.{_≡_, refl, sym, ap, _∙_, subst}
 use mathlib.Core.Bool.{Bool, true, false}
-use mathlib.Core.List.{List, _++_, []}
+use mathlib.Core.List.{List, _++_}
 use Prim.Native.Nat.{ℕ, zero, suc, _+_, _-_, _≤_}
 use native.Mathlib.Omega.{arith}
 use borrow.Author.Tests.{le-ltb}
 use lib.Dec.{T, eqb, eqb-refl}
 use lib.IntN.{pos}
 use lib.ListN.{length, getD, length-append}
-use Rattle.bits.specs.Bits.{putBits}
-use Rattle.bits.specs.Room.{roomFor, bitsFrom}
-use Rattle.bits.proofs.Room.{room}
-use Rattle.sbr_grid.specs.Refusals.{Outcome, answered, refused, valueOr}
-use Rattle.sbr_grid.proofs.Outcomes.{unless-answered}
+use Rattle.bits.specs.Room.{bitsFrom}
+use Rattle.sbr_grid.specs.Refusals.{Outcome, answered, refused}
 use Rattle.sbr_grid.specs.Grid.{Grid, numEnv}
 use Rattle.sbr_choice.proofs.Every.{is-true}
 use Rattle.sbr_grid.specs.Times.{Times, slotCount}
 use Rattle.sbr_time_grid.specs.TimeGrid.{timeGrid}
 use Rattle.sbr_time_grid.proofs.Ends.{time-ends, time-passes}
 use Rattle.sbr_writer.specs.Syntax.{gridBits}
-use Rattle.sbr_writer.specs.Write.{Wrote, writable, writeGrid}
+use Rattle.sbr_writer.specs.Write.{Wrote, writeGrid}
 use Rattle.sbr_parse.specs.Syntax.{sbrGrid}
 use Rattle.sbr_reader.specs.Read.{Accepted, marksEnd, meets, timed, parsed, readGrid, carrying}
 use Rattle.sbr_grid.proofs.Number.{number-not}
@@ -63,25 +60,6 @@ calls t a e =
       same = g;
       times = ap (timeGrid (t .timeSlots)) (sym g) ∙ q .1 ∙ ap (λ (x : Turned). answered (x .sent .time)) l;
       writes = ap (writeGrid (t .bytes) (t .position)) (sym g) ∙ r .1 ∙ ap (λ (x : Turned). answered (x .wrote)) l;
-    }
-
--- what a write that answers has put
-pub record Put (l : List ℕ) (p : ℕ) (g : Grid) (w : Wrote) : Type 0 where
-  pub fits : writable g ≡ true
-  pub room : roomFor (length l) p (length (gridBits g)) ≡ true
-  pub bytes : w .bytes ≡ putBits l p (gridBits g)
-  pub position : w .position ≡ p + length (gridBits g)
-
-pub puts : (bytes : List ℕ) (p : ℕ) (g : Grid) (w : Wrote) → writeGrid bytes p g ≡ answered w → Put bytes p g w
-unfolding writeGrid
-puts bytes p g w e =
-    let f = unless-answered (writable g) _ _ e in
-    let r = unless-answered (roomFor (length bytes) p (length (gridBits g))) _ _ (f .1) in
-    record {
-      fits = f .0;
-      room = r .0;
-      bytes = ap (valueOr (λ (u : Wrote). u .bytes) []) (sym (r .1));
-      position = ap (valueOr (λ (u : Wrote). u .position) 0) (sym (r .1));
     }
 
 -- ---- a frame that a receiver can read

@@ -9,17 +9,19 @@ use lib.IntN.{ℤ}
 use lib.ListN.{length, replicate, length-append}
 use Rattle.bits.specs.Bits.{bitsAt, putBits}
 use Rattle.bits.specs.Room.{endOf, bitsFrom}
-use Rattle.bits.proofs.Stream.{length-putBits, put-append, bitsAt-add, kept-before, bits-put}
-use Rattle.bits.proofs.After.{kept-after}
+use Rattle.bits.proofs.Stream.{bitsAt-add}
+use Rattle.bits.proofs.Put.{put-append}
+use Rattle.bits.proofs.After.{length-putBits, bits-put}
 use Rattle.bits.proofs.Room.{room}
 use Rattle.sbr_grid.specs.Refusals.{Outcome, answered, refused}
 use Rattle.sbr_writer.specs.Syntax.{gridBits}
+use Rattle.sbr_writer.proofs.Puts.{puts, some-bits}
 use Rattle.sbr_reader.specs.Read.{marksEnd}
 use Rattle.sbr_encoder.specs.Election.{Elected}
 use Rattle.sbr_run.specs.Run.{Turn, Sent, Turned, turn, Terms, Choosing, State, lastBorder, moved, after, counted, sent, OwnTurn, Turns, Run, Frame, framesFrom, stream, Chain}
 use Rattle.sbr_run.specs.Readings.{Holds}
 use Rattle.sbr_run.specs.Term3.{Transmitted, SoundChoice}
-use Rattle.sbr_run.proofs.OneFrame.{calls, puts, Good, InReach, good-frame}
+use Rattle.sbr_run.proofs.OneFrame.{calls, Good, InReach, good-frame}
 
 -- frames that a receiver can read, each from what the one before left; z has what the last one leaves
 abbrev pub GoodChain : ℕ → ℕ → Bool → List Sent → State → Type 0
@@ -42,7 +44,7 @@ chain-begins r n b a (f ∷ fs) z c e =
     let rest = chain-begins r n (lastBorder (f .time)) (marksEnd (f .grid) (f .time)) fs z (c .1) (c .0 .clear) in
     λ i. e i ∷ rest i
 
--- the frames' bits one after another from the first position, and every other bit as it was
+-- the frames' bits put at the first position, one after another
 pub record Left (n : ℕ) (s z : State) (fs : List Sent) : Type 0 where
   pub chain : GoodChain n (s .border) (s .attack) fs z
   pub ends : z .position ≡ s .position + length (stream fs)
@@ -53,6 +55,13 @@ pub record Left (n : ℕ) (s z : State) (fs : List Sent) : Type 0 where
 pub left-none : (n : ℕ) (s : State) → Left n s s []
 unfolding putBits
 left-none n s = record { chain = (refl, refl); ends = sym (add-zero (s .position)); bytes = refl; fits = λ h. absurd (omega arith) }
+
+-- where no frame is sent, nothing is moved
+left-nothing : (n : ℕ) (s z : State) → Left n s z [] → z ≡ s
+unfolding putBits
+left-nothing n s z w =
+    let position : z .position ≡ s .position = w .ends ∙ add-zero (s .position) in
+    λ i. record { border = w .chain .0 i; attack = w .chain .1 i; position = position i; bytes = w .bytes i }
 
 -- the room of all frames, from that of the first and that of the others
 fit : (f : Sent) (fs : List Sent) (p len len′ : ℕ) → (p + length (gridBits (f .grid)) ≤ 8 * len) × (p + length (gridBits (f .grid)) < 2 ^ 64) → len′ ≡ len
@@ -76,7 +85,7 @@ left-more n s z f fs g a w =
     record {
       chain = (g, w .chain);
       ends = omega (arith, w .ends, length-append c (stream fs));
-      bytes = w .bytes ∙ sym (put-append (s .bytes) (s .position) c (stream fs));
+      bytes = w .bytes ∙ sym (put-append (s .bytes) (s .position) c (stream fs) (a .0));
       fits = λ h. fit f fs (s .position) (length (s .bytes)) _ a (length-putBits (s .bytes) (s .position) c) (w .fits);
     }
 
@@ -108,23 +117,28 @@ transmit By sound r s (t ∷ ts) i h =
 -- ---- the bytes
 
 -- bytes with bits put into them hold these
-held : (l : List ℕ) (p : ℕ) (bs : List Bool) → p + length bs ≤ 8 * length l → p + length bs < 2 ^ 64 → Holds (putBits l p bs) p bs
+held : (l : List ℕ) (p : ℕ) (bs : List Bool) → 0 < length bs → p + length bs ≤ 8 * length l → p + length bs < 2 ^ 64 → Holds (putBits l p bs) p bs
 unfolding endOf
-held l p bs a b =
+held l p bs some a b =
     let m = putBits l p bs in
     let n = length bs in
     let len = length-putBits l p bs in
     let e = min (8 * length m) (2 ^ 64 - 1) in (
       bitsAt m (p + n) (e - p - n),
-      ap (bitsAt m p) (omega (arith, len)) ∙ bitsAt-add m p n (e - p - n) ∙ ap (λ (x : List Bool). x ++ bitsAt m (p + n) (e - p - n)) (bits-put l p bs a),
+      ap (bitsAt m p) (omega (arith, len)) ∙ bitsAt-add m p n (e - p - n) ∙ ap (λ (x : List Bool). x ++ bitsAt m (p + n) (e - p - n)) (bits-put l p bs some a .bits),
     )
+
+-- frames have bits
+stream-bits : (fs : List Sent) → 0 < length fs → 0 < length (stream fs)
+stream-bits [] h = absurd (omega arith)
+stream-bits (f ∷ fs) h = omega (arith, some-bits (f .grid), length-append (gridBits (f .grid)) (stream fs))
 
 -- the run's own bytes hold its stream
 holds-by : (n : ℕ) (s z : State) (fs : List Sent) → Left n s z fs → Holds (z .bytes) (s .position) (stream fs)
 holds-by n s z [] w = (bitsFrom (z .bytes) (s .position), refl)
 holds-by n s z (f ∷ fs) w =
     let k = w .fits (omega arith) in
-    subst (λ (m : List ℕ). Holds m (s .position) (stream (f ∷ fs))) (sym (w .bytes)) (held (s .bytes) (s .position) (stream (f ∷ fs)) (k .0) (k .1))
+    subst (λ (m : List ℕ). Holds m (s .position) (stream (f ∷ fs))) (sym (w .bytes)) (held (s .bytes) (s .position) (stream (f ∷ fs)) (stream-bits (f ∷ fs) (omega arith)) (k .0) (k .1))
 
 pub run-left : (By : Choosing) → SoundChoice By → (r : Terms) (s : State) (ts : List Turn) → Run By r s ts → Left (r .slots) s (after s ts) (sent ts)
 run-left By sound r s ts u = transmit By sound r s ts (record { from = u .from; by = u .by }) (u .turns)
@@ -143,9 +157,8 @@ written r s ts clear w =
       clear = chain-clear (r .slots) (s .border) false (sent ts) (after s ts) c refl;
       ends = w .ends;
       holds = holds-by (r .slots) s (after s ts) (sent ts) w;
-      before = λ q k h. ap (λ (m : List ℕ). bitsAt m q k) (w .bytes) ∙ kept-before (s .bytes) (s .position) q k str h;
-      behind = λ q k h. ap (λ (m : List ℕ). bitsAt m q k) (w .bytes) ∙ kept-after (s .bytes) (s .position) q k str (omega (arith, h, w .ends));
-      size = ap length (w .bytes) ∙ length-putBits (s .bytes) (s .position) str;
+      put = λ h. rw (w .bytes) (bits-put (s .bytes) (s .position) str (stream-bits (sent ts) h) (w .fits h .0));
+      nothing-sent = λ e. left-nothing (r .slots) s (after s ts) (subst (Left (r .slots) s (after s ts)) e w);
     }
 
 -- ---- two calls

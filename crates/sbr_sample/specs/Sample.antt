@@ -51,18 +51,18 @@ turnAt n s c = record {
   position = c .position;
 }
 
--- what is carried: at the start, after each frame and at the end
+-- what is carried: at the start, after each frame and at the end; every bit is set at the start, so that those that are kept and those that are cleared show
 abbrev pub start : State
-start = record { border = 16; attack = false; position = 3; bytes = 0 ∷ 0 ∷ 0 ∷ 0 ∷ 0 ∷ [] }
+start = record { border = 16; attack = false; position = 3; bytes = 255 ∷ 255 ∷ 255 ∷ 255 ∷ 255 ∷ [] }
 
 abbrev pub afterOne : State
-afterOne = record { border = 16; attack = false; position = 8; bytes = 1 ∷ 0 ∷ 0 ∷ 0 ∷ 0 ∷ [] }
+afterOne = record { border = 16; attack = false; position = 8; bytes = 225 ∷ 255 ∷ 255 ∷ 255 ∷ 255 ∷ [] }
 
 abbrev pub afterTwo : State
-afterTwo = record { border = 18; attack = false; position = 23; bytes = 1 ∷ 104 ∷ 48 ∷ 0 ∷ 0 ∷ [] }
+afterTwo = record { border = 18; attack = false; position = 23; bytes = 225 ∷ 104 ∷ 48 ∷ 255 ∷ 255 ∷ [] }
 
 abbrev pub end : State
-end = record { border = 16; attack = false; position = 38; bytes = 1 ∷ 104 ∷ 49 ∷ 86 ∷ 100 ∷ [] }
+end = record { border = 16; attack = false; position = 38; bytes = 225 ∷ 104 ∷ 49 ∷ 86 ∷ 100 ∷ [] }
 
 -- silence; refused, by the slot count 17; loud from slot 15 on; loud from slot 10 on; silence, refused since it has no room
 abbrev pub turns : List Turn

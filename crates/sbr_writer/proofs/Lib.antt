@@ -1,3 +1,4 @@
 pub mod Gather
 pub mod Writable
 pub mod Answers
+pub mod Puts

@@ -1,4 +1,5 @@
 -- What writing a record comes to: docs/ORDER.md, WR-15 to WR-35, with the conditions of `write_grid` of src/sbr_writer.rs.
+use mathlib.Core.Path.{_≡_}
 use mathlib.Core.Bool.{Bool, true, false, cond, not, _&&_, _||_}
 use mathlib.Core.List.{List, [], _∷_}
 use Prim.Native.Nat.{ℕ, _+_}
@@ -6,6 +7,7 @@ use lib.Dec.{leb, eqb}
 use lib.ListN.{length, getD}
 use Rattle.bits.specs.Bits.{putBits}
 use Rattle.bits.specs.Room.{roomFor}
+use Rattle.bits.specs.Put.{BitsPut}
 use Rattle.sbr_grid.specs.declared.FrameClass.{FrameClass}
 use Rattle.sbr_grid.specs.declared.FrameClass.the-variants.{FixFix, FixVar, VarFix, VarVar}
 use Rattle.sbr_grid.specs.declared.Refusal.the-variants.{Room, Record}
@@ -69,3 +71,11 @@ writtenOf (refused e) = Refused e
 -- the bytes after, as they were where the call is refused
 abbrev pub bytesAfter : List ℕ → Outcome Wrote → List ℕ
 bytesAfter l o = valueOr (λ w. w .bytes) l o
+
+-- ---- what a write leaves, bit by bit: the statement, proved in proofs/Puts.antt
+
+-- a grid leaves its bytes as one field leaves them, and the position behind its last bit
+abbrev pub EveryWrite : Type 0
+EveryWrite =
+    (l : List ℕ) (p : ℕ) (g : Grid) (w : Wrote) → writeGrid l p g ≡ answered w
+    → BitsPut l (w .bytes) p (gridBits g) × (w .position ≡ p + length (gridBits g))

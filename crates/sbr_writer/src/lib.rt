@@ -16,7 +16,8 @@ pub enum Written {
     Refused(Refusal),
 }
 
-// A record's sbr_grid() is written at a bit position; every other bit is kept, and a refused call keeps them all.
+// A record's sbr_grid() is written at a bit position, and the rest of the byte in which it ends is cleared; every other bit is kept, and a refused call
+// keeps them all.
 pub fn write_grid(buf: &mut [u8], pos: usize, grid: SbrGrid) -> Written
     ensures { λ r. ⌜ Leaves
         (writeGrid (now (buf .entry)) pos (viewOf grid))

@@ -60,7 +60,7 @@ loop-again c =
     let s = c .before .before .before .before .before .loop in
     let a = c .before .before .before .before .before .before .before .args in
     let n = c .before .before .before .in-byte .result in
-    (omega arith, omega arith, simp length-set (omega arith), rw (c .with-field .ensures, c .before .before .below .ensures) (sym (put-turn (s .buf) (s .at) n (s .k) (a .value) (omega arith) (omega arith) (omega arith)) ∙ s .inv .3))
+    (omega arith, omega arith, simp length-set (omega arith), rw (c .with-field .ensures, c .before .before .below .ensures) (sym (put-turn (s .buf) (s .at) n (s .k) (a .value) (omega arith) (omega arith) (omega arith) (omega arith)) ∙ s .inv .3))
 
 same-length : tie.Need-same-length Inv-loop μ-loop
 same-length c = search needs
