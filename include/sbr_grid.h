@@ -66,9 +66,10 @@ enum {
 };
 
 /*
- * Writes sbr_grid() of a record at a bit position and moves the position past it. The bits from there to the end of the byte in which the grid
- * ends are cleared (none where it ends with the byte); every other bit is kept, and so is every byte past that one. So whole bytes, position / 8
- * rounded up, can be sent or compared, whatever stood there before. What else that byte is to hold has to be written after the grid.
+ * Writes sbr_grid() of a record at a bit position and moves the position past it. The bits from there to the end of the byte in which
+ * the grid ends are cleared, none where it ends with its byte; every other bit is kept. So bytes that are written from position 0 on can be
+ * sent or compared whole, up to the one in which the last grid ends, whatever stood in them before. What else is to stand in that byte
+ * has to be written after the grid: what stood there behind it is lost.
  * Refused by 5 (a class above 3, a flag above 1, a range shorter than its count, a record that sbr_grid() can't carry), then 4.
  *
  * bytes, bytes_len          where the bits go
@@ -168,8 +169,9 @@ uint32_t sbr_estimate_envelopes(const double *samples, size_t samples_len, const
                                 uint8_t pointer, double *out, size_t out_len, uint64_t *count);
 
 /*
- * A transmitter's turn: elects the grid of a frame from its samples, takes its time grid, writes it at the bit position as sbr_write_grid does (the
- * rest of the byte in which it ends is cleared, every other bit kept), and moves position and border on. Refused by 1, then 5 (variable_borders above 1), 3, 2, 4; nothing moves then. Read such frames with sbr_read_grid.
+ * A transmitter's turn: elects the grid of a frame from its samples, takes its time grid, writes it at the bit position as sbr_write_grid
+ * does (the rest of the byte in which it ends is cleared until the next turn writes there), and moves position and border on. Refused by
+ * 1, then 5 (variable_borders above 1), 3, 2, 4; nothing moves then. Read such frames with sbr_read_grid.
  *
  * border    the last border of the frame before (the slot count for a first frame); the last border of this frame after it
  * No attack flag is carried: a frame that is sent never marks an attack at its very end.

@@ -123,7 +123,7 @@ fn compare_frame(f: &Frame, rng: &mut Rng, counts: &mut Counts) -> Result<Record
     Ok(record)
 }
 
-/// A turn is the election, time grid and writing that were compared before, in one call: the same record, flag, times, bits and ends.
+/// A turn is the election and time grid that were compared before and the Rust's writing, in one call: the same record, flag, times, bytes and ends.
 fn compare_send(f: &Frame, record: &Record, flag: u32, rng: &mut Rng, counts: &mut Counts) -> Result<(), String> {
     let before: Vec<u8> = (0..rng.below(9)).map(|_| rng.next() as u8).collect();
     let start = rng.below(8 * before.len() + 4) as u64;
@@ -131,7 +131,8 @@ fn compare_send(f: &Frame, record: &Record, flag: u32, rng: &mut Rng, counts: &m
     let mut wanted = Turn { transient: flag, record: *record, ..old };
     let mut expected = before.clone();
     port::derive_time_grid(f.slots as u64, record, &mut wanted.times);
-    let number = port::write_grid(&mut expected, &mut wanted.position, record);
+    let number;
+    (number, wanted.position) = rust_write(record, &mut expected, start);
     wanted.border = wanted.times.t_e[record.numbers[1] as usize] as i32;
     if number != 0 {
         wanted = old;
@@ -272,21 +273,26 @@ fn compare_time(slots: usize, r: &Record, counts: &mut Counts) -> Result<(), Str
     Ok(())
 }
 
-/// The bits of a record are the Rust's, the rest of the byte in which they end is clear, and every other bit is as it was.
-fn compare_write(r: &Record, rng: &mut Rng, counts: &mut Counts) -> Result<(), String> {
+/// Writes what the Rust writes of a record: its bits, the rest of the byte in which they end clear, every other bit as it was. Answers the number of the
+/// refusal, or 0, and the position after the bits.
+fn rust_write(r: &Record, bytes: &mut [u8], start: u64) -> (u32, u64) {
     let mut writer = BitWriter::default();
     let writes = r.numbers[5] <= 4 && r.numbers[6] <= 4 && r.numbers[1] <= 5 && oracle::sbr_writer::write_grid(&mut writer, &grid_of(r)).is_ok();
+    match writes.then(|| oracle::put(bytes, start, &writer)) {
+        None => (5, start),
+        Some(None) => (4, start),
+        Some(Some(end)) => (0, end),
+    }
+}
+
+fn compare_write(r: &Record, rng: &mut Rng, counts: &mut Counts) -> Result<(), String> {
     let len = rng.below(9);
     let before: Vec<u8> = (0..len).map(|_| rng.next() as u8).collect();
     let start = if rng.one_in(20) { rng.next() } else { rng.below(8 * len + 4) as u64 };
     let (mut bytes, mut position) = (before.clone(), start);
     let code = port::write_grid(&mut bytes, &mut position, r);
     let mut expected = before;
-    let (wanted, end) = match writes.then(|| oracle::put(&mut expected, start, &writer)) {
-        None => (5, start),
-        Some(None) => (4, start),
-        Some(Some(end)) => (0, end),
-    };
+    let (wanted, end) = rust_write(r, &mut expected, start);
     count(counts, ["writes", "", "", "", "writes refused for room", "writes refused"][wanted as usize]);
     if wanted == 0 && end % 8 == 0 {
         count(counts, "writes that fill their last byte");

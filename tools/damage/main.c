@@ -151,10 +151,20 @@ static uint64_t written, filled, unwritten[10], answers[10], kinds[KINDS], ended
 /* The bytes of a page beside a range, on the side that is not guarded. */
 static uint8_t *beside(uint8_t *bytes, size_t length, int at_end) { return at_end ? bytes - BESIDE : bytes + length; }
 
-/*
- * A write into a range of random length at any position: the rest of the byte in which it ends is clear, every other bit that is not its own is kept, also
- * beside the range; a refusal changes nothing.
- */
+/* Bits were written from `start` to `end` of a range: the rest of the byte in which they end is clear, every other bit that is not theirs is kept. */
+static void check_put(const uint8_t *bytes, const uint8_t *before, size_t length, uint64_t start, uint64_t end, uint64_t number)
+{
+    uint64_t last = (end - 1) / 8;
+    for (uint64_t i = 0; i < 8 * length; i++) {
+        int bit = bytes[i / 8] >> (7 - i % 8) & 1, old = before[i / 8] >> (7 - i % 8) & 1;
+        if (i >= end && i / 8 == last && bit != 0)
+            fail("a write left a bit set in the rest of its last byte", number);
+        if ((i < start || i / 8 > last) && bit != old)
+            fail("a write changed another bit", number);
+    }
+}
+
+/* A write into a range of random length at any position; a refusal changes nothing, and no write anything beside the range. */
 static void try_write(uint64_t number)
 {
     int at_end = one_in(2);
@@ -177,14 +187,7 @@ static void try_write(uint64_t number)
     }
     if (*position <= start || *position > 8 * length)
         fail("a write ended outside its range", number);
-    uint64_t last = (*position - 1) / 8;
-    for (uint64_t i = 0; i < 8 * length; i++) {
-        int bit = bytes[i / 8] >> (7 - i % 8) & 1, old = before[i / 8] >> (7 - i % 8) & 1;
-        if (i >= *position && i / 8 == last && bit != 0)
-            fail("a write left a bit set in the rest of its last byte", number);
-        if ((i < start || i / 8 > last) && bit != old)
-            fail("a write changed another bit", number);
-    }
+    check_put(bytes, before, length, start, *position, number);
     written++;
     filled += *position % 8 == 0;
 }
@@ -238,8 +241,14 @@ static void try_read(uint64_t number)
     if (kind > 0) {
         uint64_t *position = (uint64_t *)(void *)range(out_memory[0], 8, at_end);
         *position = start;
+        uint8_t before[MAX_BYTES];
+        memcpy(before, bytes, length);
         for (int i = 0; i < 8; i++)
             write_some(bytes, length, position, at_end);
+        if (*position > start)
+            check_put(bytes, before, length, start, *position, number);
+        else if (memcmp(bytes, before, length) != 0)
+            fail("refused writes changed something", number);
     }
     if (kind == 2 && length > 0) {
         size_t shorter = (size_t)below(length);

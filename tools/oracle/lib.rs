@@ -20,7 +20,8 @@ pub fn put(bytes: &mut [u8], position: u64, writer: &oxideav_core::bits::BitWrit
         let bit = (writer.value >> (end - 1 - at) & 1) as u8;
         bytes[at / 8] = bytes[at / 8] & !(128 >> (at % 8)) | bit << (7 - at % 8);
     }
-    for at in end..end.next_multiple_of(8) {
+    let rest = if start < end { end.next_multiple_of(8) } else { end };
+    for at in end..rest {
         bytes[at / 8] &= !(128 >> (at % 8));
     }
     Some(end as u64)

@@ -43,9 +43,8 @@ pub put-turn : (l : List ℕ) (p n k v : ℕ) → 0 < n → n ≤ 8 - p % 8 → 
     → putBits l p (bitsOf k v) ≡ putBits (set l (p / 8) (withField (getD l (p / 8) 0) (8 - p % 8 - n) n (v / 2 ^ (k - n)))) (p + n) (bitsOf (k - n) v)
 put-turn l p n k v z h i j =
     let e : k ≡ n + (k - n) = omega arith in
-    let len = length-bitsOf n (v / 2 ^ (k - n)) in
     ap (λ (m : ℕ). putBits l p (bitsOf m v)) e
-    ∙ rw (bitsOf-split n (k - n) v, put-append l p (bitsOf n (v / 2 ^ (k - n))) (bitsOf (k - n) v) (omega (arith, len)), len, put-byte l p n (v / 2 ^ (k - n)) z h i)
+    ∙ rw (bitsOf-split n (k - n) v, put-append, length-bitsOf, put-byte l p n (v / 2 ^ (k - n)) z h i)
 
 -- one turn of a loop that reads k bits after the digits of a
 pub get-turn : (l : List ℕ) (a p n k : ℕ) → n ≤ 8 - p % 8 → n ≤ k

@@ -22,13 +22,13 @@ unfoldable pub getBit : List ℕ → ℕ → Bool
 getBit l p = bitAt (getD l (p / 8) 0) (7 - p % 8)
 
 -- the list with the bit at the position p made b
-unfoldable pub setBit : List ℕ → ℕ → Bool → List ℕ
-setBit l p b = set l (p / 8) (withBit (getD l (p / 8) 0) (7 - p % 8) b)
+unfoldable pub makeBit : List ℕ → ℕ → Bool → List ℕ
+makeBit l p b = set l (p / 8) (withBit (getD l (p / 8) 0) (7 - p % 8) b)
 
 -- the list with the bits from the position p on made those of the list of bits
-unfoldable pub setBits : List ℕ → ℕ → List Bool → List ℕ
-setBits l p [] = l
-setBits l p (b ∷ bs) = setBits (setBit l p b) (suc p) bs
+unfoldable pub makeBits : List ℕ → ℕ → List Bool → List ℕ
+makeBits l p [] = l
+makeBits l p (b ∷ bs) = makeBits (makeBit l p b) (suc p) bs
 
 -- the n bits from the position p on
 unfoldable pub bitsAt : List ℕ → ℕ → ℕ → List Bool
@@ -36,14 +36,14 @@ bitsAt l p zero = []
 bitsAt l p (suc n) = getBit l p ∷ bitsAt l (suc p) n
 
 -- how many bits there are from the position e to the end of the byte of the bit before e; none where e begins a byte
-abbrev pub restOf : ℕ → ℕ
-restOf e = (8 - e % 8) % 8
+abbrev pub restBits : ℕ → ℕ
+restBits e = (8 - e % 8) % 8
 
--- the list after bits are put at the position p: these, and the bits from their end to the end of the byte in which they end cleared; every other bit as it
--- was. No bits end in no byte, so that nothing is cleared
+-- the list after bits are put at the position p: these bits, those from their end to the end of the byte in which they end cleared, every other one as it
+-- was; an empty list of bits clears nothing
 unfoldable pub putBits : List ℕ → ℕ → List Bool → List ℕ
 putBits l p [] = l
-putBits l p (b ∷ bs) = setBits l p ((b ∷ bs) ++ replicate (restOf (p + length (b ∷ bs))) false)
+putBits l p (b ∷ bs) = makeBits l p ((b ∷ bs) ++ replicate (restBits (p + length (b ∷ bs))) false)
 
 -- the n low bits of a number, the most significant first
 unfoldable pub bitsOf : ℕ → ℕ → List Bool

@@ -26,5 +26,4 @@ pub record EveryField : Type 0 where
   -- a field of no bits puts and clears nothing
   pub no-bits : (l : List ℕ) (p v : ℕ) → afterField l p 0 v ≡ l
   -- to put the bits a ++ b is to put a, then b
-  pub append : (l : List ℕ) (p : ℕ) (a b : List Bool) → p + length a ≤ 8 * length l
-      → putBits l p (a ++ b) ≡ putBits (putBits l p a) (p + length a) b
+  pub append : (l : List ℕ) (p : ℕ) (a b : List Bool) → putBits l p (a ++ b) ≡ putBits (putBits l p a) (p + length a) b

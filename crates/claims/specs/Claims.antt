@@ -27,7 +27,8 @@ pub record Claims : Type 1 where
   -- samples in columns 0 and 1, in bands outside the high table and past the columns that are needed affect no answer
   pub elections-unread : ElectionsUnread
   pub energies-unread : EnergiesUnread
-  -- a field, and a grid, leave the rest of the byte in which they end clear and every other bit as it was
+  -- a field, and a grid, leave the rest of the byte in which they end clear and every other bit as it was; a field of no bits leaves all; bits a ++ b are a,
+  -- then b
   pub every-field : EveryField
   pub every-write : EveryWrite
   -- bytes past the 832 that 255 frames need change no listing, nor does more input once every frame is there

@@ -14,7 +14,7 @@ ghost use Rattle.c_elect.specs.Elections.{electCall, electionOut};
 ghost use Rattle.c_energies.specs.Energies.{energyCall, energyOut};
 ghost use Rattle.c_send.specs.Turns.{sendCall, sendOut};
 
-// sbr_grid() of a record is written at a bit position, which is moved past it.
+// sbr_grid() of a record is written at a bit position, which is moved past it; the rest of the byte in which it ends is cleared.
 #[no_mangle]
 pub extern "C" fn sbr_write_grid(
     bytes: &mut [u8],
@@ -238,7 +238,8 @@ pub extern "C" fn sbr_estimate_envelopes(
     )
 }
 
-// A transmitter's turn: elects the grid of a frame, writes it at the bit position and moves position and border on.
+// A transmitter's turn: elects the grid of a frame, writes it at the bit position, where the rest of its last byte is cleared, and moves position and
+// border on.
 #[no_mangle]
 pub extern "C" fn sbr_send_frame(
     samples: &[f64],

@@ -11,7 +11,7 @@ use Rattle.bits.specs.Bits.{bitsAt, putBits}
 use Rattle.bits.specs.Room.{endOf, bitsFrom}
 use Rattle.bits.proofs.Stream.{bitsAt-add}
 use Rattle.bits.proofs.Put.{put-append}
-use Rattle.bits.proofs.After.{length-putBits, bits-put}
+use Rattle.bits.proofs.After.{length-putBits, put-leaves}
 use Rattle.bits.proofs.Room.{room}
 use Rattle.sbr_grid.specs.Refusals.{Outcome, answered, refused}
 use Rattle.sbr_writer.specs.Syntax.{gridBits}
@@ -57,9 +57,10 @@ unfolding putBits
 left-none n s = record { chain = (refl, refl); ends = sym (add-zero (s .position)); bytes = refl; fits = λ h. absurd (omega arith) }
 
 -- where no frame is sent, nothing is moved
-left-nothing : (n : ℕ) (s z : State) → Left n s z [] → z ≡ s
+left-nothing : (n : ℕ) (s z : State) (fs : List Sent) → length fs ≡ 0 → Left n s z fs → z ≡ s
 unfolding putBits
-left-nothing n s z w =
+left-nothing n s z (f ∷ fs) e w = absurd (omega arith)
+left-nothing n s z [] e w =
     let position : z .position ≡ s .position = w .ends ∙ add-zero (s .position) in
     λ i. record { border = w .chain .0 i; attack = w .chain .1 i; position = position i; bytes = w .bytes i }
 
@@ -85,7 +86,7 @@ left-more n s z f fs g a w =
     record {
       chain = (g, w .chain);
       ends = omega (arith, w .ends, length-append c (stream fs));
-      bytes = w .bytes ∙ sym (put-append (s .bytes) (s .position) c (stream fs) (a .0));
+      bytes = w .bytes ∙ sym (put-append (s .bytes) (s .position) c (stream fs));
       fits = λ h. fit f fs (s .position) (length (s .bytes)) _ a (length-putBits (s .bytes) (s .position) c) (w .fits);
     }
 
@@ -125,7 +126,7 @@ held l p bs some a b =
     let len = length-putBits l p bs in
     let e = min (8 * length m) (2 ^ 64 - 1) in (
       bitsAt m (p + n) (e - p - n),
-      ap (bitsAt m p) (omega (arith, len)) ∙ bitsAt-add m p n (e - p - n) ∙ ap (λ (x : List Bool). x ++ bitsAt m (p + n) (e - p - n)) (bits-put l p bs some a .bits),
+      ap (bitsAt m p) (omega (arith, len)) ∙ bitsAt-add m p n (e - p - n) ∙ ap (λ (x : List Bool). x ++ bitsAt m (p + n) (e - p - n)) (put-leaves l p bs some a .bits),
     )
 
 -- frames have bits
@@ -157,8 +158,8 @@ written r s ts clear w =
       clear = chain-clear (r .slots) (s .border) false (sent ts) (after s ts) c refl;
       ends = w .ends;
       holds = holds-by (r .slots) s (after s ts) (sent ts) w;
-      put = λ h. rw (w .bytes) (bits-put (s .bytes) (s .position) str (stream-bits (sent ts) h) (w .fits h .0));
-      nothing-sent = λ e. left-nothing (r .slots) s (after s ts) (subst (Left (r .slots) s (after s ts)) e w);
+      put = λ h. rw (w .bytes) (put-leaves (s .bytes) (s .position) str (stream-bits (sent ts) h) (w .fits h .0));
+      nothing-sent = λ e. left-nothing (r .slots) s (after s ts) (sent ts) e w;
     }
 
 -- ---- two calls

@@ -2,7 +2,7 @@
 -- are sound from the lead. Proved in proofs/Term3.antt.
 use mathlib.Core.Path.{_≡_}
 use mathlib.Core.Bool.{Bool, false}
-use mathlib.Core.List.{List, [], _++_, map}
+use mathlib.Core.List.{List, _++_, map}
 use Prim.Native.Nat.{ℕ, _+_, _-_, _≤_, _<_}
 use lib.IntN.{ℤ}
 use lib.ListN.{length, take, getD, replicate}
@@ -40,10 +40,10 @@ pub record Transmitted (r : Terms) (s : State) (ts : List Turn) : Type 0 where
   -- the stream is the bits from the first position to the last
   pub ends : after s ts .position ≡ s .position + length (stream (sent ts))
   pub holds : Holds (after s ts .bytes) (s .position) (stream (sent ts))
-  -- a run that sent a frame leaves its bytes as one field of all its bits leaves them: the rest of the byte in which the stream ends is clear
+  -- a run that sent a frame leaves its bytes as its stream leaves them, put at once: the rest of the byte in which it ends is clear
   pub put : 0 < length (sent ts) → BitsPut (s .bytes) (after s ts .bytes) (s .position) (stream (sent ts))
   -- one that sent none moves nothing
-  pub nothing-sent : sent ts ≡ [] → after s ts ≡ s
+  pub nothing-sent : length (sent ts) ≡ 0 → after s ts ≡ s
 
 -- ---- the receiver
 

@@ -66,8 +66,8 @@ fn sent(grid: SbrGrid, time: TimeGrid, transient: bool, position: usize) -> Send
     }
 }
 
-// A transmitter's turn: election from the carried border, time grid of the record, its writing at the position. The call that refuses is
-// the last, and nothing moves then.
+// A transmitter's turn: election from the carried border, time grid of the record, its writing at the position, which clears the rest of the byte in
+// which it ends. The call that refuses is the last, and nothing moves then.
 pub fn send_frame(
     x: &[f64],
     high: &[u8],

@@ -9,7 +9,7 @@ use lib.ListN.{length, take, getD}
 use lib.Seq.{take-length}
 use lib.Ieee as Ieee
 use lib.Ieee.{ofBits}
-use Rattle.bits.specs.Bits.{bitAt, withBit, getBit, setBit, setBits, putBits, bitsAt, bitsOf, numFrom}
+use Rattle.bits.specs.Bits.{bitAt, withBit, getBit, makeBit, makeBits, putBits, bitsAt, bitsOf, numFrom}
 use Rattle.bits.specs.Room.{endOf, roomFor}
 use Rattle.sbr_grid.specs.declared.FrameClass.{FrameClass}
 use Rattle.sbr_grid.specs.declared.FrameClass.the-variants.{FixFix, FixVar, VarFix}
@@ -58,7 +58,7 @@ record Outcomes : Type 0 where
   five : turn (turnAt 16 24 end) ≡ refused Room
 
 outcomes : Outcomes
-unfolding columns total ofBits Ieee.add Ieee.mul Ieee.div Ieee.ofInt Ieee.lt Ieee.le Ieee.isNan peakOf isAttack onsetsFrom detectOnsets halvesAlike spreadIsHigh bitAt withBit getBit setBit setBits putBits bitsAt bitsOf numFrom endOf roomFor widthFrom absBordLead absBordTrail nRelLead nRelTrail relBordLead slotSum listFrom tE rises middleBorder lA slotCount countsFit bordersFit noiseFits tQ timeGrid twos bodyBits gridBits every classFits fieldsFit writeGrid among drawn highFits lowFits spansFrom inside largestFrom smallestFrom isSpread someSpread electFreqRes fixfixGrid segmentsBy lateAttackVarvar fixvarSegs varfixSegs fixvarGrid varfixGrid variableGrid attackGrid plainGrid chosenGrid elect turn
+unfolding columns total ofBits Ieee.add Ieee.mul Ieee.div Ieee.ofInt Ieee.lt Ieee.le Ieee.isNan peakOf isAttack onsetsFrom detectOnsets halvesAlike spreadIsHigh bitAt withBit getBit makeBit makeBits putBits bitsAt bitsOf numFrom endOf roomFor widthFrom absBordLead absBordTrail nRelLead nRelTrail relBordLead slotSum listFrom tE rises middleBorder lA slotCount countsFit bordersFit noiseFits tQ timeGrid twos bodyBits gridBits every classFits fieldsFit writeGrid among drawn highFits lowFits spansFrom inside largestFrom smallestFrom isSpread someSpread electFreqRes fixfixGrid segmentsBy lateAttackVarvar fixvarSegs varfixSegs fixvarGrid varfixGrid variableGrid attackGrid plainGrid chosenGrid elect turn
 outcomes = record { one = refl; two = refl; three = refl; four = refl; five = refl }
 
 -- ---- what term 3 says of a run whose end is known

@@ -9,7 +9,7 @@ use Rattle.bits.specs.Bits.{putBits}
 use Rattle.bits.specs.Room.{roomFor}
 use Rattle.bits.proofs.Numbers.{length-bitsOf}
 use Rattle.bits.proofs.Room.{room}
-use Rattle.bits.proofs.After.{bits-put}
+use Rattle.bits.proofs.After.{put-leaves}
 use Rattle.sbr_grid.specs.Refusals.{answered, valueOr}
 use Rattle.sbr_grid.specs.Grid.{Grid}
 use Rattle.sbr_grid.proofs.Outcomes.{unless-answered}
@@ -44,4 +44,4 @@ pub every-write : EveryWrite
 every-write l p g w e =
     let t = puts l p g w e in
     let r = room (length l) p (length (gridBits g)) (t .room) in
-    (rw (t .bytes) (bits-put l p (gridBits g) (some-bits g) (r .within)), t .position)
+    (rw (t .bytes) (put-leaves l p (gridBits g) (some-bits g) (r .within)), t .position)

@@ -74,7 +74,7 @@ bytesAfter l o = valueOr (λ w. w .bytes) l o
 
 -- ---- what a write leaves, bit by bit: the statement, proved in proofs/Puts.antt
 
--- a grid leaves its bytes as one field leaves them, and the position behind its last bit
+-- a grid leaves its bytes as its bits leave them, put at once, and the position after the last one
 abbrev pub EveryWrite : Type 0
 EveryWrite =
     (l : List ℕ) (p : ℕ) (g : Grid) (w : Wrote) → writeGrid l p g ≡ answered w
