@@ -146,7 +146,7 @@ static uint32_t write_some(uint8_t *bytes, size_t length, uint64_t *position, in
     return sbr_write_grid(bytes, length, position, class, n, freq_res, flags, b0, b1, first, rel_0, n0, second, rel_1, n1, pointer);
 }
 
-static uint64_t written, filled, unwritten[10], answers[10], kinds[KINDS], ended_on_attack, began_on_attack;
+static uint64_t written, filled, lists, unwritten[10], answers[10], kinds[KINDS], ended_on_attack, began_on_attack;
 
 /* The bytes of a page beside a range, on the side that is not guarded. */
 static uint8_t *beside(uint8_t *bytes, size_t length, int at_end) { return at_end ? bytes - BESIDE : bytes + length; }
@@ -245,9 +245,10 @@ static void try_read(uint64_t number)
         memcpy(before, bytes, length);
         for (int i = 0; i < 8; i++)
             write_some(bytes, length, position, at_end);
-        if (*position > start)
+        if (*position > start) {
             check_put(bytes, before, length, start, *position, number);
-        else if (memcmp(bytes, before, length) != 0)
+            lists++;
+        } else if (memcmp(bytes, before, length) != 0)
             fail("refused writes changed something", number);
     }
     if (kind == 2 && length > 0) {
@@ -294,6 +295,7 @@ int main(int argc, char **argv)
     for (int i = 0; i < KINDS; i++)
         printf("  %s: %" PRIu64 "\n", KIND_NAMES[i], kinds[i]);
     printf("writes answered: %" PRIu64 ", of which %" PRIu64 " fill their last byte\n", written, filled);
+    printf("lists of writes in a stream, at least one of them answered: %" PRIu64 "\n", lists);
     print_counts("writes refused, by number", unwritten);
     print_counts("readings by number (0: a frame)", answers);
     printf("frames that mark an attack at their very end: %" PRIu64 ", that begin on one: %" PRIu64 "\n", ended_on_attack, began_on_attack);

@@ -45,6 +45,20 @@ low-over l p n u v h k =
     let w = withLow (getD l (p / 8) 0) n u in
     rw (make-low l p n u h k, make-low (set l (p / 8) w) p n v h (lt-length-set l (p / 8) w k), make-low l p n v h k, getD-set-same l (p / 8) w 0 k, low-twice (getD l (p / 8) 0) n u v, set-set)
 
+-- bits that are made others there stay too, with more after them
+low-longer : (l : List ℕ) (p n u : ℕ) (c d : List Bool) → p % 8 + n ≡ 8 → p / 8 < length l → length c ≡ n
+    → makeBits (makeBits l p (bitsOf n u)) p (c ++ d) ≡ makeBits l p (c ++ d)
+low-longer l p n u c d h k e =
+    let b : bitsOf n (numOf c) ≡ c = rw e at (bits-num c) in
+    let o : makeBits (makeBits l p (bitsOf n u)) p c ≡ makeBits l p c = rw b at (low-over l p n u (numOf c) h k) in
+    rw (make-append (makeBits l p (bitsOf n u)) p c d, make-append l p c d, o)
+
+-- bits past the end of the list are not made others
+make-outside : (l : List ℕ) (p : ℕ) (bs : List Bool) → length l ≤ p / 8 → makeBits l p bs ≡ l
+unfolding makeBits makeBit
+make-outside l p [] h = refl
+make-outside l p (b ∷ bs) h = ap (λ (m : List ℕ). makeBits m (suc p) bs) (set-out l (p / 8) _ h) ∙ make-outside l (suc p) bs (omega arith)
+
 -- ---- cleared bits
 
 -- bits that are clear are those of 0
@@ -53,21 +67,7 @@ unfolding bitsOf bitAt
 zeros zero = refl
 zeros (suc n) = rw (zero-div, zeros n)
 
--- the same of any bits, and more behind them
-low-longer : (l : List ℕ) (p n u : ℕ) (c d : List Bool) → p % 8 + n ≡ 8 → p / 8 < length l → length c ≡ n
-    → makeBits (makeBits l p (bitsOf n u)) p (c ++ d) ≡ makeBits l p (c ++ d)
-low-longer l p n u c d h k e =
-    let b : bitsOf n (numOf c) ≡ c = rw e at (bits-num c) in
-    let o : makeBits (makeBits l p (bitsOf n u)) p c ≡ makeBits l p c = rw b at (low-over l p n u (numOf c) h k) in
-    rw (make-append (makeBits l p (bitsOf n u)) p c d, make-append l p c d, o)
-
--- bits past the end of the list are not there
-make-outside : (l : List ℕ) (p : ℕ) (bs : List Bool) → length l ≤ p / 8 → makeBits l p bs ≡ l
-unfolding makeBits makeBit
-make-outside l p [] h = refl
-make-outside l p (b ∷ bs) h = ap (λ (m : List ℕ). makeBits m (suc p) bs) (set-out l (p / 8) _ h) ∙ make-outside l (suc p) bs (omega arith)
-
--- so it does not matter that the rest of a byte was cleared before as many bits or more are written there
+-- that the rest of a byte was cleared does not show once as many bits or more are made others from there on
 rest-over : (l : List ℕ) (p n : ℕ) (bs : List Bool) → n ≡ restBits p → n ≤ length bs → makeBits (makeBits l p (replicate n false)) p bs ≡ makeBits l p bs
 unfolding makeBits
 rest-over l p zero bs e le = refl
