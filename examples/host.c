@@ -1,6 +1,6 @@
 /*
  * Writes four frames, the third with an attack marked at its very end, reads them back and prints what was read; then elects the grid of a
- * frame with an attack and prints its energies.
+ * frame with an attack and prints its energies, each with its values by the coarse and by the fine step.
  */
 #include "sbr_grid.h"
 
@@ -85,10 +85,17 @@ int main(void)
                                (uint8_t)elected[SBR_POINTER], energies, SBR_MAX_ENERGIES, &count);
     if (r != 0)
         return refused("energies", r);
-    printf("elected: %s, %" PRIu32 " envelopes, %s; energies", CLASSES[elected[SBR_FRAME_CLASS]], elected[SBR_NUM_ENV],
+    uint8_t coarse[SBR_MAX_ENERGIES], fine[SBR_MAX_ENERGIES];
+    r = sbr_quantise_envelopes(energies, (size_t)count, 1, coarse, sizeof coarse);
+    if (r != 0)
+        return refused("quantise", r);
+    r = sbr_quantise_envelopes(energies, (size_t)count, 0, fine, sizeof fine);
+    if (r != 0)
+        return refused("quantise", r);
+    printf("elected: %s, %" PRIu32 " envelopes, %s; energies (coarse, fine values)", CLASSES[elected[SBR_FRAME_CLASS]], elected[SBR_NUM_ENV],
            transient ? "an onset" : "no onset");
     for (uint64_t i = 0; i < count; i++)
-        printf(" %g", energies[i]);
+        printf(" %g (%u, %u)", energies[i], coarse[i], fine[i]);
     printf("\n");
     return 0;
 }

@@ -1,6 +1,6 @@
 /*
- * The SBR time grid for a C host: electing a frame's grid from its samples, its envelopes' energies, reading and writing sbr_grid()
- * (ISO/IEC 14496-3, Table 4.69) and its time grid (4.6.18.3.3).
+ * The SBR time grid for a C host: electing a frame's grid from its samples, its envelopes' energies and their quantised values, reading
+ * and writing sbr_grid() (ISO/IEC 14496-3, Table 4.69) and its time grid (4.6.18.3.3).
  *
  * Link with the static library that `rt staticlib sbr_c` makes (target/staticlib/libsbr_c.a).
  *
@@ -50,6 +50,9 @@ enum { SBR_SAMPLES_16 = 6400, SBR_SAMPLES_15 = 6144, SBR_BANDS = 64 };
 
 /* Most numbers that sbr_estimate_envelopes gives. */
 enum { SBR_MAX_ENERGIES = 5 * 64 };
+
+/* The highest values that sbr_quantise_envelopes gives, by its step. */
+enum { SBR_MAX_COARSE = 63, SBR_MAX_FINE = 127 };
 
 /* Places in the numbers that sbr_read_grid and sbr_elect_grid give. */
 enum {
@@ -167,6 +170,18 @@ uint32_t sbr_estimate_envelopes(const double *samples, size_t samples_len, const
                                 uint8_t var_bord_0, uint8_t var_bord_1, const uint8_t *rel_bord_0, size_t rel_bord_0_len,
                                 uint64_t num_rel_0, const uint8_t *rel_bord_1, size_t rel_bord_1_len, uint64_t num_rel_1,
                                 uint8_t pointer, double *out, size_t out_len, uint64_t *count);
+
+/*
+ * The quantised values of energies, a byte for each, in their order. r being the energy over 64, the value is the largest whole q with
+ * r^2 >= 2^(2q - 1), at most 63, for the coarse step of 3 dB, and with r^4 >= 2^(2q - 1), at most 127, for the fine step of 1.5 dB. An energy
+ * of 64 or less, negative ones included, and a NaN have the value 0, infinity has the highest. No logarithm is taken: the value is exact for every double.
+ * Refused by 5 (amp_res above 1), then 4 (fewer bytes than energies).
+ *
+ * energy, energy_len    any doubles, as many as are to be quantised; those of sbr_estimate_envelopes: its out, and its count as the length
+ * amp_res               1 for the coarse step, 0 for the fine one: bs_amp_res, which is 0 in a frame with SBR_AMP_RES_OVERRIDE 1
+ * out, out_len          where the values go; bytes past them are kept
+ */
+uint32_t sbr_quantise_envelopes(const double *energy, size_t energy_len, uint32_t amp_res, uint8_t *out, size_t out_len);
 
 /*
  * A transmitter's turn: elects the grid of a frame from its samples, takes its time grid, writes it at the bit position as sbr_write_grid

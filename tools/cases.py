@@ -81,12 +81,17 @@ def pack(bits):
     return bytes(int(''.join(map(str, bits[i:i + 8])), 2) for i in range(0, len(bits), 8))
 
 
-def store(program, mode, data):
-    """Writes what the program reads and what it must print, which the oracle says; answers the latter."""
-    oracle = os.path.join(ROOT, 'target', 'oracle', 'oracle')
-    lines = subprocess.run([oracle, mode], input=data, capture_output=True, check=True).stdout
+def write(program, data, lines):
+    """Writes what the program reads and what it must print."""
     folder = os.path.join(ROOT, 'crates', program)
     for name, content in (('stdin', data), ('stdout', lines)):
         with open(os.path.join(folder, name), 'wb') as out:
             out.write(content)
+
+
+def store(program, mode, data):
+    """Writes what the program reads and what it must print, which the oracle says; answers the latter."""
+    oracle = os.path.join(ROOT, 'target', 'oracle', 'oracle')
+    lines = subprocess.run([oracle, mode], input=data, capture_output=True, check=True).stdout
+    write(program, data, lines)
     return lines.decode()

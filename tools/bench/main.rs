@@ -6,7 +6,7 @@ mod frames;
 mod port;
 
 use frames::{needed, Frame, Rng};
-use oracle::sbr_encoder::SbrEncoder;
+use oracle::sbr_encoder::{quantise_envelopes, SbrEncoder};
 use oracle::sbr_grid::SbrGrid;
 use oracle::sbr_qmf::Complex;
 use oracle::sbr_time_grid::derive_time_grid;
@@ -30,6 +30,9 @@ struct Case {
     bits: Vec<u8>,
     /// Where a host has the rows of the energies put.
     rows: RefCell<[f64; 320]>,
+    /// The energies, a row for each envelope, and one after another.
+    energies: Vec<Vec<f64>>,
+    all_energies: Vec<f64>,
 }
 
 /// A frame with so many onsets. Means of quiet frames (gain 1) stay under 64, so that no resolution test passes early; loud ones (gain 10) lie above.
@@ -74,7 +77,9 @@ fn case(rng: &mut Rng, slots: usize, onsets: usize, wide: bool, gain: f64) -> Ca
     let mut bits = vec![0u8; 8];
     let mut at = 0;
     port::write_grid(&mut bits, &mut at, &record);
-    Case { frame, columns, encoder, grid, record, t_e, bits, rows: RefCell::new([0.0; 320]) }
+    let energies = encoder.estimate(&columns, &grid, &t_e);
+    let all_energies = energies.concat();
+    Case { frame, columns, encoder, grid, record, t_e, bits, rows: RefCell::new([0.0; 320]), energies, all_energies }
 }
 
 fn rust_elect(c: &Case) -> usize {
@@ -119,6 +124,16 @@ fn port_energies(c: &Case) -> usize {
     let f = &c.frame;
     port::estimate_envelopes(&f.x, &f.high, &f.low, f.slots as u64, &c.record, &mut *rows, &mut n);
     black_box(&*rows)[0] as usize
+}
+
+fn rust_quantise(c: &Case, amp_res: bool) -> usize {
+    black_box(&quantise_envelopes(black_box(&c.energies), amp_res)).len()
+}
+
+fn port_quantise(c: &Case, amp_res: bool) -> usize {
+    let mut values = [0u8; 320];
+    port::quantise_envelopes(black_box(&c.all_energies), amp_res as u32, &mut values);
+    black_box(&values)[0] as usize
 }
 
 fn rust_frame(c: &Case) -> usize {
@@ -198,6 +213,10 @@ fn main() {
                 row(&format!("frame as a turn, {what}, mix"), rust_frame, port_turn, &mix, rounds);
                 row(&format!("election, {what}, mix"), rust_elect, port_elect, &mix, rounds);
                 row(&format!("energies, {what}, mix"), rust_energies, port_energies, &mix, rounds);
+                if slots == 16 {
+                    row(&format!("quantising, coarse, {what}, mix"), |c| rust_quantise(c, true), |c| port_quantise(c, true), &mix, rounds);
+                    row(&format!("quantising, fine, {what}, mix"), |c| rust_quantise(c, false), |c| port_quantise(c, false), &mix, rounds);
+                }
                 if wide && gain == 1.0 {
                     row(&format!("time grid, {slots} slots, mix"), rust_time, port_time, &mix, rounds);
                     row(&format!("writing, {slots} slots, mix"), rust_write, port_write, &mix, rounds);

@@ -18,7 +18,7 @@ static ucontext_t back, there;
 
 static double samples[SBR_SAMPLES_16], energies[SBR_MAX_ENERGIES];
 static const uint8_t high[] = {0, 2, 4, 6, 8, 10, 12, 14, 16, 20, 24, 28, 32, 40, 48, 56, 64}, low[] = {0, 4, 8, 12, 16, 24, 32, 48, 64};
-static uint8_t bytes[BYTES], freq_res[SBR_MAX_ENVELOPES], rel_0[SBR_MAX_REL_BORD], rel_1[SBR_MAX_REL_BORD];
+static uint8_t values[SBR_MAX_ENERGIES], bytes[BYTES], freq_res[SBR_MAX_ENVELOPES], rel_0[SBR_MAX_REL_BORD], rel_1[SBR_MAX_REL_BORD];
 static uint32_t numbers[SBR_NUMBERS], t_e[SBR_MAX_BORDERS], t_q[SBR_MAX_NOISE_BORDERS], transient, result;
 static uint64_t position, count, slots;
 static int32_t border, l_a;
@@ -57,6 +57,11 @@ static void estimate(void)
     result = sbr_estimate_envelopes(samples, SBR_SAMPLES_16, high, sizeof high, low, sizeof low, slots, numbers[0], numbers[1], numbers[2], freq_res,
                                     5, (uint8_t)numbers[3], (uint8_t)numbers[4], rel_0, 4, numbers[5], rel_1, 4, numbers[6],
                                     (uint8_t)numbers[7], energies, SBR_MAX_ENERGIES, &count);
+}
+
+static void quantise(void)
+{
+    result = sbr_quantise_envelopes(energies, SBR_MAX_ENERGIES, (uint32_t)(slots - 15), values, SBR_MAX_ENERGIES);
 }
 
 static void send(void)
@@ -100,12 +105,14 @@ int main(void)
         const char *name;
         void (*call)(void);
     } CALLS[] = {{"sbr_elect_grid", elect},  {"sbr_derive_time_grid", derive},     {"sbr_write_grid", write_it},
-                 {"sbr_read_grid", read_it}, {"sbr_estimate_envelopes", estimate}, {"sbr_send_frame", send}};
-    size_t deepest[6] = {0}, ground = depth(empty);
+                 {"sbr_read_grid", read_it}, {"sbr_estimate_envelopes", estimate}, {"sbr_quantise_envelopes", quantise},
+                 {"sbr_send_frame", send}};
+    enum { COUNT = sizeof CALLS / sizeof CALLS[0] };
+    size_t deepest[COUNT] = {0}, ground = depth(empty);
     for (slots = 15; slots <= 16; slots++)
         for (unsigned onsets = 0; onsets < 4; onsets++)
             for (int lead = 0; lead < 4; lead++)
-                for (unsigned i = 0; i < 6; i++) {
+                for (unsigned i = 0; i < COUNT; i++) {
                     sound(onsets);
                     border = (int32_t)slots + lead;
                     size_t used = depth(CALLS[i].call);
@@ -116,7 +123,7 @@ int main(void)
                     if (used - ground > deepest[i])
                         deepest[i] = used - ground;
                 }
-    for (unsigned i = 0; i < 6; i++)
+    for (unsigned i = 0; i < COUNT; i++)
         printf("  %-24s %6zu bytes\n", CALLS[i].name, deepest[i]);
     return 0;
 }

@@ -1,6 +1,7 @@
 //! Compares every call of the program with the Rust. See `run` for the usage.
 mod frames;
 mod port;
+mod quantise;
 
 use frames::{needed, Frame, Rng};
 use oracle::sbr_encoder::SbrEncoder;
@@ -18,8 +19,12 @@ const OLD_NUMBER: f64 = -12345.678;
 
 type Counts = BTreeMap<&'static str, u64>;
 
+fn add(counts: &mut Counts, what: &'static str, n: u64) {
+    *counts.entry(what).or_insert(0) += n;
+}
+
 fn count(counts: &mut Counts, what: &'static str) {
-    *counts.entry(what).or_insert(0) += 1;
+    add(counts, what, 1);
 }
 
 fn record_of(g: &SbrGrid) -> Record {
@@ -146,7 +151,7 @@ fn compare_send(f: &Frame, record: &Record, flag: u32, rng: &mut Rng, counts: &m
     Ok(())
 }
 
-/// Energies of a record over a frame, with room to spare, exactly enough, and one number short.
+/// Energies of a record over a frame, with room to spare, exactly enough, and one number short; and their values.
 fn compare_energies(
     f: &Frame, x: &[[Complex; 64]], encoder: &SbrEncoder, record: &Record, rng: &mut Rng, counts: &mut Counts,
 ) -> Result<(), String> {
@@ -155,7 +160,8 @@ fn compare_energies(
         Ok(t) => t,
         Err(_) => return Ok(()),
     };
-    let wanted: Vec<f64> = encoder.estimate(x, &grid, &time.t_e).concat();
+    let rows = encoder.estimate(x, &grid, &time.t_e);
+    let wanted: Vec<f64> = rows.concat();
     let room = wanted.len() + [0, 0, 1, 70][rng.below(4)];
     let (mut out, mut n) = (vec![OLD_NUMBER; room], 99);
     let code = port::estimate_envelopes(&f.x, &f.high, &f.low, f.slots as u64, record, &mut out, &mut n);
@@ -180,7 +186,7 @@ fn compare_energies(
             return Err(format!("energies one number short: {code} {n}"));
         }
     }
-    Ok(())
+    quantise::compare(&rows, rng, counts)
 }
 
 /// Calls that must be refused, by the number given, and leave everything as it was.
@@ -494,7 +500,8 @@ fn work(seed: u64, checks: u64, step: usize, tables: usize) -> Counts {
     let mut rng = Rng(seed);
     let mut counts = Counts::new();
     all_cases(&mut rng, seed, tables, &mut counts);
-    if let Err(e) = all_records(&mut rng, step, &mut counts) {
+    let places = all_records(&mut rng, step, &mut counts).and_then(|_| quantise::all_places(&mut rng, &mut counts));
+    if let Err(e) = places {
         fail(e, seed, None);
     }
     for _ in 0..checks {
@@ -508,6 +515,7 @@ fn work(seed: u64, checks: u64, step: usize, tables: usize) -> Counts {
         let at_large = compare_time(f.slots, &r, &mut counts)
             .and_then(|_| compare_write(&r, &mut rng, &mut counts))
             .and_then(|_| any_reading(&mut rng, &mut counts))
+            .and_then(|_| quantise::compare(&[quantise::any_energies(&mut rng)], &mut rng, &mut counts))
             .and_then(|_| compare_refusals(&f, &mut rng, &mut counts));
         if let Err(e) = at_large {
             fail(e, seed, None);

@@ -39,6 +39,7 @@ extern "C" {
         num_0: u64, rel_1: *const u8, rel_1_len: usize, num_1: u64, pointer: u8, energies: *mut f64, energies_len: usize,
         count: *mut u64,
     ) -> u32;
+    fn sbr_quantise_envelopes(energy: *const f64, len: usize, amp_res: u32, out: *mut u8, out_len: usize) -> u32;
     fn sbr_send_frame(
         samples: *const f64, len: usize, high: *const u8, high_len: usize, low: *const u8, low_len: usize, variable: u32,
         slots: u64, bytes: *mut u8, bytes_len: usize, position: *mut u64, border: *mut i32, transient: *mut u32,
@@ -111,6 +112,10 @@ pub fn estimate_envelopes(
             byte(n[7]), energies.as_mut_ptr(), energies.len(), count,
         )
     }
+}
+
+pub fn quantise_envelopes(energy: &[f64], amp_res: u32, out: &mut [u8]) -> u32 {
+    unsafe { sbr_quantise_envelopes(energy.as_ptr(), energy.len(), amp_res, out.as_mut_ptr(), out.len()) }
 }
 
 /// What a turn hands out.

@@ -1,5 +1,5 @@
 /*
- * Random, truncated and damaged inputs for the reader and the writer, in memory that is guarded on both sides of each range: a page that
+ * Random, truncated and damaged inputs for the reader and the writer, and any energies to be quantised, in memory that is guarded on both sides of each range: a page that
  * can't be touched stands directly behind the range, or directly before it. What a call may not touch is compared after it.
  *
  * usage: damage CASES SEED
@@ -13,7 +13,7 @@
 #include <sys/mman.h>
 #include <unistd.h>
 
-enum { MAX_BYTES = 24, BESIDE = 16, RANGES = 4, KINDS = 4, NUMBERS_SIZE = SBR_NUMBERS * 4 };
+enum { MAX_BYTES = 24, MAX_VALUES = 12, BESIDE = 16, RANGES = 4, KINDS = 4, NUMBERS_SIZE = SBR_NUMBERS * 4 };
 
 static const char *const KIND_NAMES[KINDS] = {"random bytes", "streams", "truncated streams", "damaged streams"};
 
@@ -146,7 +146,7 @@ static uint32_t write_some(uint8_t *bytes, size_t length, uint64_t *position, in
     return sbr_write_grid(bytes, length, position, class, n, freq_res, flags, b0, b1, first, rel_0, n0, second, rel_1, n1, pointer);
 }
 
-static uint64_t written, filled, lists, unwritten[10], answers[10], kinds[KINDS], ended_on_attack, began_on_attack;
+static uint64_t written, filled, lists, quantised, unwritten[10], unquantised[10], answers[10], kinds[KINDS], ended_on_attack, began_on_attack;
 
 /* The bytes of a page beside a range, on the side that is not guarded. */
 static uint8_t *beside(uint8_t *bytes, size_t length, int at_end) { return at_end ? bytes - BESIDE : bytes + length; }
@@ -190,6 +190,40 @@ static void try_write(uint64_t number)
     check_put(bytes, before, length, start, *position, number);
     written++;
     filled += *position % 8 == 0;
+}
+
+/* Energies of any bits, or from below 64 to past the highest value, are quantised into a range of about their number; a refusal changes nothing, and no
+   call a byte past the values or beside the range, nor an energy. */
+static void try_quantise(uint64_t number)
+{
+    int at_end = one_in(2);
+    size_t count = (size_t)below(MAX_VALUES), size = count * sizeof(double), length = (size_t)below(4) + (count < 2 ? 0 : count - 2);
+    uint64_t *energy = (uint64_t *)(void *)range(in_memory[1], size, at_end), kept[MAX_VALUES];
+    for (size_t i = 0; i < count; i++)
+        if (one_in(2))
+            energy[i] = (1023 + below(80)) << 52 | next() >> 12;
+    uint8_t *bytes = range(in_memory[0], length, at_end), before[MAX_VALUES + 2], outside[BESIDE];
+    memcpy(kept, energy, size);
+    memcpy(before, bytes, length);
+    for (size_t i = 0; i < BESIDE; i++)
+        outside[i] = beside(bytes, length, at_end)[i] = (uint8_t)next();
+    uint32_t amp_res = one_in(8) ? (uint32_t)next() : (uint32_t)below(2);
+    uint32_t wanted = amp_res > 1 ? SBR_REFUSED_RECORD : length < count ? SBR_REFUSED_ROOM : 0;
+    uint32_t r = sbr_quantise_envelopes((const double *)(const void *)energy, count, amp_res, bytes, length);
+    if (r != wanted)
+        fail("quantising answered another number", number);
+    if (memcmp(beside(bytes, length, at_end), outside, BESIDE) != 0 || memcmp(energy, kept, size) != 0)
+        fail("quantising changed something beside its range", number);
+    size_t values = r == 0 ? count : 0;
+    if (memcmp(bytes + values, before + values, length - values) != 0)
+        fail("quantising changed a byte that is no value", number);
+    for (size_t i = 0; i < values; i++)
+        if (bytes[i] > (amp_res == 1 ? SBR_MAX_COARSE : SBR_MAX_FINE))
+            fail("a value is above the highest", number);
+    if (r == 0)
+        quantised++;
+    else
+        unquantised[r]++;
 }
 
 /* Reads until a refusal, which must leave everything as it was; the flag that a frame leaves is handed in to the next reading. */
@@ -291,13 +325,17 @@ int main(int argc, char **argv)
         try_write(i);
         try_read(i);
     }
-    printf("damage: seed %s, %" PRIu64 " writes and %" PRIu64 " inputs read to their first refusal, nothing outside a range touched\n", argv[2], cases, cases);
+    for (uint64_t i = 0; i < cases; i++)
+        try_quantise(i);
+    printf("damage: seed %s, %" PRIu64 " each of writes, inputs read to their first refusal and lists of energies quantised, nothing outside a range touched\n", argv[2], cases);
     for (int i = 0; i < KINDS; i++)
         printf("  %s: %" PRIu64 "\n", KIND_NAMES[i], kinds[i]);
     printf("writes answered: %" PRIu64 ", of which %" PRIu64 " fill their last byte\n", written, filled);
     printf("lists of writes in a stream, at least one of them answered: %" PRIu64 "\n", lists);
     print_counts("writes refused, by number", unwritten);
     print_counts("readings by number (0: a frame)", answers);
+    printf("lists quantised: %" PRIu64 "\n", quantised);
+    print_counts("lists not quantised, by number", unquantised);
     printf("frames that mark an attack at their very end: %" PRIu64 ", that begin on one: %" PRIu64 "\n", ended_on_attack, began_on_attack);
     return 0;
 }

@@ -11,6 +11,7 @@ use Rattle.sbr_choice.proofs.Best.{search-is-least, none-exactly}
 use Rattle.sbr_choice.proofs.Cases.{marked-cases}
 use Rattle.sbr_choice.proofs.Every.{chosen-is-sound}
 use Rattle.sbr_envelopes.proofs.Unread.{energies-unread}
+use Rattle.sbr_quantise.proofs.Largest.{value-is-largest, steps-are-largest}
 use Rattle.sbr_encoder.proofs.Unread.{elections-unread}
 use Rattle.sbr_encoder.proofs.EveryElection.{every-election, never-at-end}
 use Rattle.sbr_run.proofs.Term3.{every-call, term3}
@@ -44,6 +45,8 @@ claims = record {
   none-exactly = none-exactly;
   chosen-is-sound = chosen-is-sound;
   marked-cases = marked-cases;
+  value-is-largest = value-is-largest;
+  steps-are-largest = steps-are-largest;
   every-election = every-election;
   never-at-end = never-at-end;
   every-call = every-call;

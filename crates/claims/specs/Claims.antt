@@ -10,6 +10,7 @@ use Rattle.sbr_reader.specs.Flag.{FlagExactly, FlagOnlyTold}
 use Rattle.sbr_choice.specs.Plans.{SearchIsLeast, NoneExactly}
 use Rattle.sbr_choice.specs.Chosen.{ChosenIsSound, MarkedCases}
 use Rattle.sbr_envelopes.specs.Unread.{EnergiesUnread}
+use Rattle.sbr_quantise.specs.Largest.{ValueIsLargest, StepsAreLargest}
 use Rattle.sbr_encoder.specs.Unread.{ElectionsUnread}
 use Rattle.sbr_encoder.specs.Electable.{EveryElection, NeverAtEnd}
 use Rattle.sbr_run.specs.Term3.{Term3, EveryCall}
@@ -55,6 +56,10 @@ pub record Claims : Type 1 where
   -- every chosen grid has a time grid from the lead to 0 to 3 slots past the frame, whose mark is not the envelope count; the marked cases
   pub chosen-is-sound : ChosenIsSound
   pub marked-cases : MarkedCases
+  -- the value of a finite energy above 64 is the largest number that it attains, held to the highest value: for every power, so for the coarse step and
+  -- the fine one
+  pub value-is-largest : ValueIsLargest
+  pub steps-are-largest : StepsAreLargest
   -- ---- term 3: what any list of turns sends, any receiver reads back
   pub every-election : EveryElection
   -- no elected frame has its mark at its very end

@@ -1,6 +1,6 @@
 // The calls of the C firmware: plain numbers and ranges of bytes, in and out. Each answers 0, or the number of a refusal, and a
 // refused call leaves everything that was lent as it was. What they do stands in c_bits, c_read, c_elect,
-// c_energies and c_send.
+// c_energies, c_quantise and c_send.
 use c_values::give::NUMBERS;
 use sbr_grid::SbrGrid;
 use sbr_grid::TimeGrid;
@@ -12,6 +12,7 @@ ghost use Rattle.c_bits.specs.Calls.{writeCall, timeCall, writeOut};
 ghost use Rattle.c_read.specs.Frames.{carriedIn, frameOut};
 ghost use Rattle.c_elect.specs.Elections.{electCall, electionOut};
 ghost use Rattle.c_energies.specs.Energies.{energyCall, energyOut};
+ghost use Rattle.c_quantise.specs.Quantise.{quantiseCall, quantiseOut};
 ghost use Rattle.c_send.specs.Turns.{sendCall, sendOut};
 
 // sbr_grid() of a record is written at a bit position, which is moved past it; the rest of the byte in which it ends is cleared.
@@ -236,6 +237,17 @@ pub extern "C" fn sbr_estimate_envelopes(
         out,
         count,
     )
+}
+
+// The quantised energies, a byte for each.
+#[no_mangle]
+pub extern "C" fn sbr_quantise_envelopes(energy: &[f64], amp_res: u32, out: &mut [u8]) -> u32
+    ensures { λ r. ⌜ Gives
+        (quantiseCall (now (energy .entry)) «amp_res» (length (now (out .entry))))
+        (quantiseOut (now (out .entry))) (now (out .entry))
+        r (now (out .exit)) ⌝ }
+{
+    c_quantise::quantise_envelopes(energy, amp_res, out)
 }
 
 // A transmitter's turn: elects the grid of a frame, writes it at the bit position, where the rest of its last byte is cleared, and moves position and

@@ -39,8 +39,8 @@ sumOf (x ∷ xs) = x + sumOf xs
 unfoldable pub rowsLength : List Bool → ℕ → ℕ → ℕ
 rowsLength fs highBands lowBands = sumOf (rowLengths highBands lowBands fs)
 
--- the rows, where there is room for as many numbers
-abbrev pub fitted : ℕ → List Float → Outcome (List Float)
+-- the rows, where there is room for as many numbers; so are bytes fitted
+abbrev pub fitted : {A : Type 0} → ℕ → List A → Outcome (List A)
 fitted room es = unless (leb (length es) room) Room (answered es)
 
 abbrev pub rowsOf : SampleAt → List ℕ → List ℕ → Grid → ℕ → Outcome Times → Outcome (List Float)
@@ -59,5 +59,5 @@ abbrev pub estimatedOf : Outcome (List Float) → Estimated
 estimatedOf (answered es) = Count (length es)
 estimatedOf (refused e) = Refused e
 
-abbrev pub numbersAfter : List Float → Outcome (List Float) → List Float
+abbrev pub numbersAfter : {A : Type 0} → List A → Outcome (List A) → List A
 numbersAfter out o = valueOr (λ es. es ++ drop (length es) out) out o

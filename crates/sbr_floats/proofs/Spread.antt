@@ -6,7 +6,7 @@ use mathlib.Core.Bool.{Bool, true, false, not, _&&_}
 use native.Mathlib.Nat.{lt-of-lt-of-le, le-trans, mul-assoc, mul-comm, mul-left-comm, mul-right-comm, pow-zero, pow-suc, pow-le-pow-left, one-le-pow, mul-le-mul-right, mul-lt-mul-of-pos-right, lt-of-mul-lt-mul-right, le-of-mul-le-mul-right, mul-le-mul, mul-one}
 use native.Mathlib.Numerals.{add-one-le}
 use native.Mathlib.Omega.{arith}
-use lib.Dec.{T, ltb, leb, eqb, lit<, lit≤, ltb→lt, nltb→le}
+use lib.Dec.{T, ltb, leb, eqb, lit<, lit≤, ltb→lt, leb→le, nltb→le}
 use lib.Pow.{pow-add, pow-mono}
 use lib.IntN.{ℤ, pos, negsuc}
 use lib.Ieee.{Float, nan, inf, fin, binary64, up, down, lt, fits}
@@ -27,7 +27,7 @@ same-test : (a b c d : ℕ) → (a < b → c < d) → (b ≤ a → d ≤ c) → 
 same-test a b c d f g = elim (split a b) [ inl h ↦ lt-ltb a b h ∙ sym (lt-ltb c d (f h)) | inr h ↦ le-ltb a b h ∙ sym (le-ltb c d (g h)) ]
 
 -- a power of a product
-mul-pow : (a b n : ℕ) → (a * b) ^ n ≡ a ^ n * b ^ n
+pub mul-pow : (a b n : ℕ) → (a * b) ^ n ≡ a ^ n * b ^ n
 mul-pow a b zero = simp pow-zero
 mul-pow a b (suc n) = rw (pow-suc, pow-suc, pow-suc, mul-pow a b n) (simp (mul-assoc, mul-comm, mul-left-comm))
 
@@ -60,15 +60,19 @@ gap M n (negsuc k) m s h = elim (split k 51) [
   | inr l ↦ let q : 52 ≤ suc k = omega arith in omega (arith, mul-le-mul m (pow-mono q))
 ]
 
--- a number of the format has at most 53 binary digits
-digits : (s : Bool) (n : ℕ) (e : ℤ) → T (fits binary64 (fin s n e)) → n < 2 ^ 53
+-- a number of the format other than 0 has at most 53 binary digits, and none under that of 2 ^ -1074
+pub in-format : (s : Bool) (n : ℕ) (e : ℤ) → T (fits binary64 (fin s (suc n) e)) → (suc n < 2 ^ 53) × (down e ≤ 2 ^ 1074)
 unfolding fits
-digits s zero e t = lit< tt
-digits s (suc n) e t =
+in-format s n e t =
     let a : Bool = eqb (suc n % 2) 1 in
     let b : Bool = ltb (suc n) (2 ^ 53) in
     let c : Bool = leb (down e) (2 ^ 1074) in
-    ltb→lt (suc n) (2 ^ 53) (and-r a b (and-l (a && b) c (and-l (a && b && c) (ltb (suc n * up e) (2 ^ 1024 * down e)) t)))
+    let u : T (a && b && c) = and-l (a && b && c) (ltb (suc n * up e) (2 ^ 1024 * down e)) t in
+    (ltb→lt (suc n) (2 ^ 53) (and-r a b (and-l (a && b) c u)), leb→le (down e) (2 ^ 1074) (and-r (a && b) c u))
+
+digits : (s : Bool) (n : ℕ) (e : ℤ) → T (fits binary64 (fin s n e)) → n < 2 ^ 53
+digits s zero e t = lit< tt
+digits s (suc n) e t = in-format s n e t .0
 
 -- for every number of the format, the code's test decides whether its fifth power exceeds 1000
 pub spread : (r : Float) → fits binary64 r ≡ true → lt (fin false 8964576524791263 (negsuc 50)) r ≡ spreadIsHigh r

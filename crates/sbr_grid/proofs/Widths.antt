@@ -31,7 +31,8 @@ width-from (suc d) k n below h =
     wider d k n below (λ g. width-from d (suc k) n (λ j l. under k n below g j l (decLe (suc j) k)) (rw (suc-add k d, ← add-suc k d) h))
     (decLe (n + 1) (2 ^ k))
 
-pow-above : (n : ℕ) → n + 1 ≤ 2 ^ n
+-- a power of 2 is above its exponent
+pub pow-above : (n : ℕ) → n + 1 ≤ 2 ^ n
 pow-above zero = omega arith
 pow-above (suc n) = omega (arith, pow-above n, pow-suc 2 n)
 

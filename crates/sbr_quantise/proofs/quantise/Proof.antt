@@ -1,0 +1,71 @@
+-- `sbr_quantise::quantise` meets its contract.
+use mathlib.Core.Path.{refl, sym, _∙_}
+use native.Mathlib.Omega.{arith}
+use borrow.Author.Needs.{needs}
+use lib.Dec.{lit≤, lit<}
+use lib.Ieee.{ofBits}
+use Rattle.sbr_quantise.proofs.Values.{quantised-none, value-some}
+use Rattle.sbr_quantise.proofs.quantise.Statement.{statement}
+use Rattle.sbr_quantise.proofs.quantise.Tie as tie
+
+scale-of-requires : tie.Need-scale-of-requires
+scale-of-requires c κs = search needs
+
+coarse-values-requires : tie.Need-coarse-values-requires
+coarse-values-requires c κs = search needs
+
+add-held : tie.Need-add-held
+add-held c = search needs
+
+held-requires : tie.Need-held-requires
+held-requires c κs = search needs
+
+mul-held : tie.Need-mul-held
+mul-held c = search needs
+
+fine-values-requires : tie.Need-fine-values-requires
+fine-values-requires c κs = search needs
+
+add-held-2 : tie.Need-add-held-2
+add-held-2 c = search needs
+
+held-requires-2 : tie.Need-held-requires-2
+held-requires-2 c κs = search needs
+
+returns : tie.Need-returns
+unfolding ofBits
+returns c =
+    let t : tie.Then2 = c .before .before .before in
+    let s : tie.After-scale-of = t .before in
+    rw (t .if2 .taken)
+    (c .held .ensures
+    ∙ value-some 1 63 (s .before .before .args .energy) _ _ _ _ (lit< tt, lit≤ tt, s .scale-of .ensures .2) (s .before .if1 .taken) (s .scale-of .ensures .0) (c .before .before .coarse-values .ensures .0) (omega arith))
+
+returns-2 : tie.Need-returns-2
+unfolding ofBits
+returns-2 c =
+    let t : tie.Else2 = c .before .before .before in
+    let s : tie.After-scale-of = t .before in
+    rw (t .if2 .left)
+    (c .held2 .ensures
+    ∙ value-some 2 127 (s .before .before .args .energy) _ _ _ _ (lit< tt, lit≤ tt, s .scale-of .ensures .2) (s .before .if1 .taken) (s .scale-of .ensures .0) (c .before .fine-values .ensures .0) refl)
+
+returns-3 : tie.Need-returns-3
+unfolding ofBits
+returns-3 c = sym (quantised-none (c .before .args .amp-res) (c .before .args .energy) (c .if1 .left))
+
+pub quantise-spec : {M : Type 1} → statement M
+quantise-spec =
+    tie.close
+    (tie.spec
+    scale-of-requires
+    coarse-values-requires
+    add-held
+    held-requires
+    mul-held
+    fine-values-requires
+    add-held-2
+    held-requires-2
+    returns
+    returns-2
+    returns-3)

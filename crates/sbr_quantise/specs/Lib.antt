@@ -1,0 +1,3 @@
+pub mod Quantise
+pub mod Largest
+pub mod Octaves
