@@ -66,11 +66,11 @@ int main(void)
                position, border);
     }
 
-    /* a quiet frame with an attack in slot 10 */
+    /* a frame with an attack in slot 10 */
     static double samples[SBR_SAMPLES_16];
     const uint8_t table_high[4] = {10, 12, 16, 20}, table_low[2] = {10, 20};
     for (int slot = 0; slot < 24; slot++)
-        samples[((2 * slot + 2) * SBR_BANDS + 11) * 2] = slot == 10 ? 40.0 : 1.0;
+        samples[((2 * slot + 2) * SBR_BANDS + 11) * 2] = slot == 10 ? 4000.0 : 100.0;
     uint32_t transient, elected[SBR_NUMBERS];
     uint8_t res[SBR_MAX_ENVELOPES], leading[SBR_MAX_REL_BORD], backward[SBR_MAX_REL_BORD];
     r = sbr_elect_grid(samples, SBR_SAMPLES_16, table_high, 4, table_low, 2, 16, 1, 16, &transient, elected, res, leading, backward);

@@ -2,18 +2,17 @@
 -- energy is h times its octave, and what its part attains of the h edges of an octave.
 use Prim.Native.Nat.{ℕ, zero, suc, _+_, _-_, _*_, _^_, _<_, _≤_}
 use mathlib.Core.Path.{_≡_, sym, ap, _∙_}
-use mathlib.Core.Bool.{true, false, cond}
+use mathlib.Core.Bool.{true, false}
 use native.Mathlib.Decide.{decLe}
 use native.Mathlib.Nat.{le-trans, lt-of-le-of-lt, lt-of-lt-of-le, mul-assoc, mul-comm, mul-left-comm, mul-right-comm, mul-add, pow-zero, pow-suc, pow-le-pow-left, one-le-pow, mul-le-mul-right, mul-le-mul-left, le-of-mul-le-mul-right, mul-zero, mul-suc, mul-pos}
 use native.Mathlib.Omega.{arith}
-use lib.Dec.{leb, lit≤, lit<}
+use lib.Dec.{leb}
 use lib.Pow.{pow-add, pow-pos, pow-mono}
-use borrow.Author.Tests.{le-leb, lt-leb, leb-true, leb-false}
+use borrow.Author.Tests.{le-leb, lt-leb, leb-true}
 use Rattle.sbr_floats.proofs.Spread.{mul-pow}
 use Rattle.sbr_quantise.specs.Quantise.{attains, lastUpTo}
-use Rattle.sbr_quantise.specs.Largest.{Attains, Largest}
-use Rattle.sbr_quantise.specs.Octaves.{parts}
-use Rattle.sbr_quantise.proofs.Largest.{Meets, lower, lowest, attained, not-met, last-passes, last-most}
+use Rattle.sbr_quantise.specs.Largest.{Largest}
+use Rattle.sbr_quantise.proofs.Largest.{Meets, lowest, attained, not-met, last-passes, last-most}
 
 -- two tests are equal where each gives the other
 same-test : (a b c d : ℕ) → (a ≤ b → c ≤ d) → (c ≤ d → a ≤ b) → leb a b ≡ leb c d
@@ -90,20 +89,10 @@ module _ (h m u : ℕ) (p : 0 < u) (l : u ≤ m) (b : m ≤ 2 * u) where
         ];
       }
 
--- ---- the edges between 1 and 2, over 2 ^ 52 parts
+-- ---- an edge between 1 and 2, in parts past u: from it on the number j is attained, before it is not
 
--- `edge` is the least part past u that attains j
-at-edge : (p u j edge t : ℕ) → Meets p (u + edge) u j → 2 * (u + edge - 1) ^ p < 2 ^ (2 * j) * u ^ p → attains p (u + t) u j ≡ leb edge t
-at-edge p u j edge t r s = elim (decLe edge t) [
-  | yes h ↦ le-leb _ _ (le-trans r (mul-le-mul-left 2 (pow-le-pow-left {n = u + edge} {m = u + t} (omega arith) p))) ∙ sym (le-leb edge t h)
-  | no h ↦ lt-leb _ _ (lt-of-le-of-lt (mul-le-mul-left 2 (pow-le-pow-left {n = u + t} {m = u + edge - 1} (omega arith) p)) s) ∙ sym (lt-leb edge t (omega arith))
-]
+pub at-edge : (p u j edge t : ℕ) → edge ≤ t → Meets p (u + edge) u j → attains p (u + t) u j ≡ true
+at-edge p u j edge t h r = le-leb _ _ (le-trans r (mul-le-mul-left 2 (pow-le-pow-left {n = u + edge} {m = u + t} (omega arith) p)))
 
--- the second power has one, 2 ^ (1 / 2), the fourth two, 2 ^ (1 / 4) and 2 ^ (3 / 4)
-pub one-edge : (t : ℕ) → lastUpTo (attains 2 (parts + t) parts) 1 ≡ cond (leb 1865452045155277 t) 1 0
-unfolding lastUpTo
-one-edge t = rw (at-edge 2 parts 1 1865452045155277 t (lit≤ tt) (lit< tt))
-
-pub two-edges : (t : ℕ) → lastUpTo (attains 4 (parts + t) parts) 2 ≡ cond (leb 3070521937417134 t) 2 (cond (leb 852113092622102 t) 1 0)
-unfolding lastUpTo
-two-edges t = rw (at-edge 4 parts 2 3070521937417134 t (lit≤ tt) (lit< tt), at-edge 4 parts 1 852113092622102 t (lit≤ tt) (lit< tt))
+pub under-edge : (p u j edge t : ℕ) → t < edge → 2 * (u + edge - 1) ^ p < 2 ^ (2 * j) * u ^ p → attains p (u + t) u j ≡ false
+under-edge p u j edge t h s = lt-leb _ _ (lt-of-le-of-lt (mul-le-mul-left 2 (pow-le-pow-left {n = u + t} {m = u + edge - 1} (omega arith) p)) s)

@@ -97,10 +97,10 @@ from-pattern b k m a d p h e lo hi v =
     let c : k ≡ k - 1028 + (1022 + 6) = omega arith in
     (omega arith, rw (r, o) (rescaled 1022 (k - 1028) m a d (ap (λ (z : ℕ). m * 2 ^ z * d) (sym c) ∙ v)))
 
-pub finite-scaled : (m : ℕ) (e : ℤ) → T (fits binary64 (fin false m e)) → 64 * down e < m * up e
+pub finite-scales : (m : ℕ) (e : ℤ) → T (fits binary64 (fin false m e)) → 64 * down e < m * up e
     → (1029 ≤ toBits binary64 (fin false m e) / parts) × Scales (fin false m e) (toBits binary64 (fin false m e) / parts - 1029) (toBits binary64 (fin false m e) % parts)
-finite-scaled zero e t h = absurd (omega arith)
-finite-scaled (suc m) e t h =
+finite-scales zero e t h = absurd (omega arith)
+finite-scales (suc m) e t h =
     let f = in-format false m e t in
     let d = digits 1074 53 (suc m) e (f .0) (f .1) in
     let w : 2 ^ (6 + 1074) < inUnits 1074 (suc m) e = subst (λ (z : ℕ). 2 ^ (6 + 1074) < z) (whole 1074 53 (suc m) e (f .0) (f .1) .1) (above 1074 _ _ (suc m * up e) (down e) (down-pos e) d h) in
@@ -118,14 +118,14 @@ unfolding lt
 tested-not m e h = omega (arith, ltb-false (64 * down e) (m * up e * 1) h)
 
 -- every double above 64
-pub scaled-is : (x : Float) → fits binary64 x ≡ true → lt (fin false 1 (pos 6)) x ≡ true
+pub scales : (x : Float) → fits binary64 x ≡ true → lt (fin false 1 (pos 6)) x ≡ true
     → (1029 ≤ toBits binary64 x / parts) × Scales x (toBits binary64 x / parts - 1029) (toBits binary64 x % parts)
 unfolding lt toBits
-scaled-is nan t h = absurd (false≢true h)
-scaled-is (inf true) t h = absurd (false≢true h)
-scaled-is (inf false) t h = (lit≤ tt, (refl, refl))
-scaled-is (fin true m e) t h = absurd (false≢true h)
-scaled-is (fin false m e) t h = finite-scaled m e (subst T (sym t) tt) (tested m e h)
+scales nan t h = absurd (false≢true h)
+scales (inf true) t h = absurd (false≢true h)
+scales (inf false) t h = (lit≤ tt, (refl, refl))
+scales (fin true m e) t h = absurd (false≢true h)
+scales (fin false m e) t h = finite-scales m e (subst T (sym t) tt) (tested m e h)
 
 -- and it is no NaN
 pub number : (x : Float) → lt (fin false 1 (pos 6)) x ≡ true → isNan x ≡ false

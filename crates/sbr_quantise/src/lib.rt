@@ -6,8 +6,9 @@ ghost use mathlib.Core.Bool.{true};
 ghost use mathlib.Core.List.{map};
 ghost use Prim.Native.Nat.{_+_, _≤_, _<_, min};
 ghost use lib.ListN.{length};
-ghost use lib.Ieee.{binary64, ofBits, lt};
+ghost use lib.Ieee.{lt};
 ghost use Rattle.sbr_grid.specs.Refusals.{answered, answerOf, Leaves};
+ghost use Rattle.sbr_floats.specs.Floats.{floor64};
 ghost use Rattle.sbr_envelopes.specs.Envelopes.{numbersAfter};
 ghost use Rattle.sbr_quantise.specs.Quantise.{attains, lastUpTo, quantised, quantisedIn};
 ghost use Rattle.sbr_quantise.specs.Octaves.{parts, Scales};
@@ -38,7 +39,7 @@ struct Scaled {
 
 // An energy above 64 as such a product.
 fn scale_of(energy: f64) -> Scaled
-    requires { ⌜ lt (ofBits binary64 0x4050_0000_0000_0000) energy ≡ true ⌝ }
+    requires { ⌜ lt floor64 energy ≡ true ⌝ }
     ensures { λ r. ⌜ Scales energy (r .octave) (r .part) × (r .octave < 4096) × (r .part < parts) ⌝ }
 {
     let bits = f64::to_bits(energy);
