@@ -172,12 +172,13 @@ uint32_t sbr_estimate_envelopes(const double *samples, size_t samples_len, const
                                 uint8_t pointer, double *out, size_t out_len, uint64_t *count);
 
 /*
- * The quantised values of energies, a byte for each, in their order. r being the energy over 64, the value is the largest whole q with
- * r^2 >= 2^(2q - 1), at most 63, for the coarse step of 3 dB, and with r^4 >= 2^(2q - 1), at most 127, for the fine step of 1.5 dB. An energy
- * of 64 or less, negative ones included, and a NaN have the value 0, infinity has the highest. No logarithm is taken: the value is exact for every double.
+ * Quantises energies: their scale steps, a byte for each, in their order. Let r be an energy over 64. Its value is the largest whole q
+ * for which r^2 >= 2^(2q - 1), but at most 63, with the coarse step, of 3 dB; for which r^4 >= 2^(2q - 1), but at most 127, with the fine
+ * step, of 1.5 dB. Energies up to 64, negative ones and minus infinity among them, and NaN have the value 0; infinity has the highest.
+ * Nothing is rounded on the way: the value is exact for every double.
  * Refused by 5 (amp_res above 1), then 4 (fewer bytes than energies).
  *
- * energy, energy_len    any doubles, as many as are to be quantised; those of sbr_estimate_envelopes: its out, and its count as the length
+ * energy, energy_len    the energies, any doubles; of sbr_estimate_envelopes: what it gave in out, and count as the length
  * amp_res               1 for the coarse step, 0 for the fine one: bs_amp_res, which is 0 in a frame with SBR_AMP_RES_OVERRIDE 1
  * out, out_len          where the values go; bytes past them are kept
  */

@@ -6,8 +6,7 @@ usage: tools/quantise_cases.py
 Writes crates/quantise_cases/stdin and crates/quantise_cases/stdout, and says how many lines end in each way. Needs no Rust: next to an edge the Rust's
 logarithm may round either way, and the order's rule alone decides. Away from edges tools/compare has the Rust beside it.
 
-The rule, from docs/ORDER.md (R3): r is the energy over 64. An energy of 64 or less, or a NaN, has the value 0, infinity the highest. The value of any other
-is the largest whole q with r^2 >= 2^(2q - 1), at most 63, for the coarse step; with r^4 >= 2^(2q - 1), at most 127, for the fine one.
+The rule is that of docs/ORDER.md, R3-2 to R3-9, with fractions for r and its powers.
 
 A case, its numbers low byte first:
   1 byte   1 for the coarse step, 0 for the fine one
@@ -88,8 +87,8 @@ def cases():
         yield case(step, [-64.0, -65.0, -1e300, -1.7976931348623157e308, NEGATIVE | INFINITY, NEGATIVE | 1, -4096.0])
         yield case(step, [1.7976931348623157e308, INFINITY, INFINITY - 1, INFINITY + 1, (1 << 63) - 1, INFINITY | 1 << 51, NEGATIVE | INFINITY | 1 << 51])
         # each value in its place, in both orders, with more room, with exactly enough, and without
-        steps = [64.0 * 2 ** (k / 2) * 1.01 for k in range(SIZE)]
-        for energies in (steps, steps[::-1], steps[:7], steps[:1], []):
+        rising = [64.0 * 2 ** (k / 2) * 1.01 for k in range(SIZE)]
+        for energies in (rising, rising[::-1], rising[:7], rising[:1], []):
             for lent in sorted({0, len(energies) - 1, len(energies), len(energies) + 1, SIZE}):
                 if 0 <= lent <= SIZE:
                     yield case(step, energies, lent)

@@ -59,9 +59,11 @@ static void estimate(void)
                                     (uint8_t)numbers[7], energies, SBR_MAX_ENERGIES, &count);
 }
 
+/* By either step: both slot counts are run through. */
 static void quantise(void)
 {
-    result = sbr_quantise_envelopes(energies, SBR_MAX_ENERGIES, (uint32_t)(slots - 15), values, SBR_MAX_ENERGIES);
+    uint32_t amp_res = slots == 16;
+    result = sbr_quantise_envelopes(energies, SBR_MAX_ENERGIES, amp_res, values, SBR_MAX_ENERGIES);
 }
 
 static void send(void)

@@ -500,8 +500,8 @@ fn work(seed: u64, checks: u64, step: usize, tables: usize) -> Counts {
     let mut rng = Rng(seed);
     let mut counts = Counts::new();
     all_cases(&mut rng, seed, tables, &mut counts);
-    let places = all_records(&mut rng, step, &mut counts).and_then(|_| quantise::all_places(&mut rng, &mut counts));
-    if let Err(e) = places {
+    let listed = all_records(&mut rng, step, &mut counts).and_then(|_| quantise::all_places(&mut rng, &mut counts));
+    if let Err(e) = listed {
         fail(e, seed, None);
     }
     for _ in 0..checks {
@@ -545,7 +545,7 @@ fn main() {
     let mut all = Counts::new();
     for h in handles {
         for (what, n) in h.join().unwrap() {
-            *all.entry(what).or_insert(0) += n;
+            add(&mut all, what, n);
         }
     }
     for (what, n) in &all {

@@ -39,7 +39,7 @@ sumOf (x ∷ xs) = x + sumOf xs
 unfoldable pub rowsLength : List Bool → ℕ → ℕ → ℕ
 rowsLength fs highBands lowBands = sumOf (rowLengths highBands lowBands fs)
 
--- the rows, where there is room for as many numbers; so are bytes fitted
+-- a list of numbers, those of the rows or others, where there is room for as many
 abbrev pub fitted : {A : Type 0} → ℕ → List A → Outcome (List A)
 fitted room es = unless (leb (length es) room) Room (answered es)
 

@@ -1,2 +1,4 @@
+pub mod Powers
+pub mod Format
 pub mod Spread
 pub mod Picks

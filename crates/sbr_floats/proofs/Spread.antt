@@ -1,18 +1,20 @@
 -- The code's limit, 8964576524791263 / 2 ^ 51, is the largest number of 64 bits whose fifth power does not exceed 1000.
-use Prim.Native.Nat.{ℕ, zero, suc, _+_, _-_, _*_, _^_, _%_, _<_, _≤_}
+use Prim.Native.Nat.{ℕ, suc, _+_, _-_, _*_, _^_, _<_, _≤_}
 use mathlib.Core.Path.{_≡_, refl, sym, _∙_, ap, subst}
 use mathlib.Core.Logic.{_⊎_, inl, inr}
-use mathlib.Core.Bool.{Bool, true, false, not, _&&_}
-use native.Mathlib.Nat.{lt-of-lt-of-le, le-trans, mul-assoc, mul-comm, mul-left-comm, mul-right-comm, pow-zero, pow-suc, pow-le-pow-left, one-le-pow, mul-le-mul-right, mul-lt-mul-of-pos-right, lt-of-mul-lt-mul-right, le-of-mul-le-mul-right, mul-le-mul, mul-one}
+use mathlib.Core.Bool.{Bool, true, false, not}
+use native.Mathlib.Nat.{lt-of-lt-of-le, le-trans, mul-assoc, mul-right-comm, pow-le-pow-left, one-le-pow, mul-le-mul-right, mul-lt-mul-of-pos-right, lt-of-mul-lt-mul-right, le-of-mul-le-mul-right, mul-le-mul, mul-one}
 use native.Mathlib.Numerals.{add-one-le}
 use native.Mathlib.Omega.{arith}
-use lib.Dec.{T, ltb, leb, eqb, lit<, lit≤, ltb→lt, leb→le, nltb→le}
+use lib.Dec.{T, ltb, lit<, lit≤, ltb→lt, nltb→le}
 use lib.Pow.{pow-add, pow-mono}
 use lib.IntN.{ℤ, pos, negsuc}
 use lib.Ieee.{Float, nan, inf, fin, binary64, up, down, lt, fits}
-use lib.Ieee.Fits.{and-l, and-r, down-pos}
+use lib.Ieee.Fits.{down-pos}
 use borrow.Author.Tests.{lt-ltb, le-ltb}
 use Rattle.sbr_floats.specs.Floats.{spreadIsHigh}
+use Rattle.sbr_floats.proofs.Powers.{mul-pow}
+use Rattle.sbr_floats.proofs.Format.{digits}
 
 -- one of two numbers is below the other, or not
 split : (a b : ℕ) → (a < b) ⊎ (b ≤ a)
@@ -25,11 +27,6 @@ split a b = go (ltb a b) (ltb→lt a b) (nltb→le a b)
 -- two tests are equal where each way of the first gives that of the second
 same-test : (a b c d : ℕ) → (a < b → c < d) → (b ≤ a → d ≤ c) → ltb a b ≡ ltb c d
 same-test a b c d f g = elim (split a b) [ inl h ↦ lt-ltb a b h ∙ sym (lt-ltb c d (f h)) | inr h ↦ le-ltb a b h ∙ sym (le-ltb c d (g h)) ]
-
--- a power of a product
-pub mul-pow : (a b n : ℕ) → (a * b) ^ n ≡ a ^ n * b ^ n
-mul-pow a b zero = simp pow-zero
-mul-pow a b (suc n) = rw (pow-suc, pow-suc, pow-suc, mul-pow a b n) (simp (mul-assoc, mul-comm, mul-left-comm))
 
 -- A / D is at least N / U, whose k th power is above t
 over : (k A D N U t : ℕ) → 0 < D → t * U ^ k < N ^ k → N * D ≤ A * U → t * D ^ k < A ^ k
@@ -59,20 +56,6 @@ gap M n (negsuc k) m s h = elim (split k 51) [
       step M (2 ^ suc k) (n * 2 ^ (51 - suc k)) (n * 1 * 2 ^ 51) (rw (mul-one, mul-assoc) (ap (λ (z : ℕ). n * z) p)) h
   | inr l ↦ let q : 52 ≤ suc k = omega arith in omega (arith, mul-le-mul m (pow-mono q))
 ]
-
--- a number of the format other than 0 has at most 53 binary digits, and none under that of 2 ^ -1074
-pub in-format : (s : Bool) (n : ℕ) (e : ℤ) → T (fits binary64 (fin s (suc n) e)) → (suc n < 2 ^ 53) × (down e ≤ 2 ^ 1074)
-unfolding fits
-in-format s n e t =
-    let a : Bool = eqb (suc n % 2) 1 in
-    let b : Bool = ltb (suc n) (2 ^ 53) in
-    let c : Bool = leb (down e) (2 ^ 1074) in
-    let u : T (a && b && c) = and-l (a && b && c) (ltb (suc n * up e) (2 ^ 1024 * down e)) t in
-    (ltb→lt (suc n) (2 ^ 53) (and-r a b (and-l (a && b) c u)), leb→le (down e) (2 ^ 1074) (and-r (a && b) c u))
-
-digits : (s : Bool) (n : ℕ) (e : ℤ) → T (fits binary64 (fin s n e)) → n < 2 ^ 53
-digits s zero e t = lit< tt
-digits s (suc n) e t = in-format s n e t .0
 
 -- for every number of the format, the code's test decides whether its fifth power exceeds 1000
 pub spread : (r : Float) → fits binary64 r ≡ true → lt (fin false 8964576524791263 (negsuc 50)) r ≡ spreadIsHigh r

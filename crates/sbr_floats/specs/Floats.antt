@@ -10,7 +10,7 @@ use lib.Ieee.{Float, fin, inf, nan, binary64, ofBits, up, down}
 abbrev pub zero64 : Float
 zero64 = ofBits binary64 0
 
--- 64.0, the energy that an onset and a spread band have to exceed
+-- 64.0, the energy that an onset, a spread band and a quantised value above 0 have to exceed
 abbrev pub floor64 : Float
 floor64 = ofBits binary64 0x4050_0000_0000_0000
 

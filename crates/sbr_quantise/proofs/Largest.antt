@@ -5,7 +5,7 @@ use mathlib.Core.Bool.{Bool, true, false, cond, false≢true}
 use native.Mathlib.Decide.{decLe}
 use native.Mathlib.Nat.{le-trans, mul-assoc, pow-succ', pow-le-pow-left, one-le-pow, mul-le-mul-right, mul-le-mul-left, mul-pos}
 use native.Mathlib.Omega.{arith}
-use lib.Dec.{lit<}
+use lib.Dec.{leb, lit<}
 use lib.IntN.{ℤ}
 use lib.Pow.{pow-mono}
 use lib.Ieee.{fin, up, down}
@@ -14,6 +14,10 @@ use borrow.Author.Tests.{le-leb, lt-leb, leb-true, leb-false}
 use Rattle.sbr_grid.proofs.Widths.{pow-above}
 use Rattle.sbr_quantise.specs.Quantise.{attains, lastUpTo, valueBy}
 use Rattle.sbr_quantise.specs.Largest.{Attains, Largest, ValueIsLargest, StepsAreLargest}
+
+-- a test is not passed where its inequality does not hold
+pub not-leb : (a b : ℕ) → (a ≤ b → ⊥) → leb a b ≡ false
+not-leb a b h = lt-leb a b (omega arith)
 
 -- ---- the last number that passes a test
 
@@ -42,7 +46,7 @@ module _ (t : ℕ → Bool) where
           absurd (false≢true (sym e ∙ ap t i ∙ p))
 
   -- of a test that is passed up to q and not past it
-  pub last-is : (q n : ℕ) → ((k : ℕ) → k ≤ q → t k ≡ true) → ((k : ℕ) → q < k → t k ≡ false) → lastUpTo t n ≡ min q n
+  last-is : (q n : ℕ) → ((k : ℕ) → k ≤ q → t k ≡ true) → ((k : ℕ) → q < k → t k ≡ false) → lastUpTo t n ≡ min q n
   unfolding lastUpTo
   last-is q zero f g = omega arith
   last-is q (suc n) f g = elim (decLe (suc n) q) [
@@ -56,11 +60,11 @@ abbrev pub Meets : ℕ → ℕ → ℕ → ℕ → Type 0
 Meets p a d q = 2 ^ (2 * q) * d ^ p ≤ 2 * a ^ p
 
 -- a number below one that is met is met
-pub lower : (p a d q k : ℕ) → k ≤ q → Meets p a d q → Meets p a d k
+lower : (p a d q k : ℕ) → k ≤ q → Meets p a d q → Meets p a d k
 lower p a d q k h r = le-trans (mul-le-mul-right (d ^ p) (pow-mono {i = 2 * k} {j = 2 * q} (omega arith))) r
 
-twice : (p d n : ℕ) → 2 ^ (2 * suc n) * d ^ p ≡ 2 * (2 ^ (2 * suc n - 1) * d ^ p)
-twice p d n =
+doubled : (p d n : ℕ) → 2 ^ (2 * suc n) * d ^ p ≡ 2 * (2 ^ (2 * suc n - 1) * d ^ p)
+doubled p d n =
     let e : 2 * suc n ≡ suc (2 * suc n - 1) = omega arith in
     ap (λ (z : ℕ). 2 ^ z * d ^ p) e ∙ rw (pow-succ' 2 (2 * suc n - 1)) (mul-assoc 2 (2 ^ (2 * suc n - 1)) (d ^ p))
 
@@ -69,19 +73,19 @@ module _ (p a d : ℕ) (l : d ≤ a) where
   pub lowest : Meets p a d 0
   lowest = omega (arith, pow-le-pow-left l p)
 
-  pub meets : (q : ℕ) → Attains p a d q → Meets p a d q
+  meets : (q : ℕ) → Attains p a d q → Meets p a d q
   meets zero h = lowest
-  meets (suc n) h = omega (arith, twice p d n)
+  meets (suc n) h = omega (arith, doubled p d n)
 
   pub attained : (q : ℕ) → Meets p a d q → Attains p a d q
   attained zero h = omega (arith, pow-le-pow-left l p)
-  attained (suc n) h = omega (arith, twice p d n)
+  attained (suc n) h = omega (arith, doubled p d n)
 
   -- a number that no test meets is not attained
   pub not-met : (q : ℕ) → attains p a d q ≡ false → Attains p a d q → ⊥
   not-met q f h = omega (arith, leb-false (2 ^ (2 * q) * d ^ p) (2 * a ^ p) f, meets q h)
 
--- a number that is met is at most twice the power
+-- a number that is met is at most doubled the power
 bounded : (p a d q : ℕ) → 0 < d → Meets p a d q → q ≤ 2 * a ^ p
 bounded p a d q c r =
     let x : 2 ^ (2 * q) * 1 ≤ 2 ^ (2 * q) * d ^ p = mul-le-mul-left (2 ^ (2 * q)) (one-le-pow p d c) in
@@ -104,10 +108,7 @@ value-is-largest p top m e h = rw (lt-leb (m * up e) (64 * down e) h) (go (m * u
         let le : d ≤ a = omega arith in
         let met : Meets p a d q = leb-true _ _ (last-passes (attains p a d) n (le-leb _ _ (lowest p a d le))) in
         let most : (k : ℕ) → Meets p a d k → k ≤ q = λ k r. last-most (attains p a d) n k (bounded p a d k c r) (le-leb _ _ r) in
-        let past : (k : ℕ) → q < k → attains p a d k ≡ false = λ k g. elim (decLe (2 ^ (2 * k) * d ^ p) (2 * a ^ p)) [
-          | yes r ↦ absurd (omega (arith, most k r))
-          | no r ↦ lt-leb (2 ^ (2 * k) * d ^ p) (2 * a ^ p) (omega arith)
-        ] in (
+        let past : (k : ℕ) → q < k → attains p a d k ≡ false = λ k g. not-leb _ _ (λ (r : Meets p a d k). omega (arith, most k r)) in (
           q,
           (
             record { attained = attained p a d le q met; most = λ k r. most k (meets p a d le k r) },

@@ -1,6 +1,7 @@
 -- A value for each number of a list: whether they have room, and stored in their order from the first place on.
 use Prim.Native.Nat.{ℕ, _+_, _≤_, _<_}
 use mathlib.Core.Path.{_≡_, sym, ap, _∙_}
+use mathlib.Core.Bool.{Bool}
 use mathlib.Core.List.{List, map}
 use native.Mathlib.Nat.{zero-add}
 use native.Mathlib.Numerals.{add-one}
@@ -12,15 +13,24 @@ use borrow.Author.Tests.{le-leb, lt-leb}
 use Rattle.sbr_grid.specs.declared.Refusal.the-variants.{Room}
 use Rattle.sbr_grid.specs.Refusals.{answered, refused}
 use Rattle.sbr_envelopes.specs.Envelopes.{fitted, numbersAfter}
+use Rattle.sbr_quantise.specs.Quantise.{quantised, quantisedIn}
+
+-- what has no room is refused, what has room is the answer
+not-fitted : {A : Type 0} (es : List A) (room : ℕ) → room < length es → fitted room es ≡ refused Room
+not-fitted es room h = rw (lt-leb (length es) room h)
+
+is-fitted : {A : Type 0} (es : List A) (room : ℕ) → length es ≤ room → fitted room es ≡ answered es
+is-fitted es room h = rw (le-leb (length es) room h)
+
+-- values have room where there are as many bytes as energies
+module _ (ampRes : Bool) (es : List Float) (out : List ℕ) where
+  pub no-room : length out < length es → quantisedIn ampRes es (length out) ≡ refused Room
+  no-room h = not-fitted (map (quantised ampRes) es) (length out) (omega (arith, length-map es (quantised ampRes)))
+
+  pub has-room : length es ≤ length out → quantisedIn ampRes es (length out) ≡ answered (map (quantised ampRes) es)
+  has-room h = is-fitted (map (quantised ampRes) es) (length out) (omega (arith, length-map es (quantised ampRes)))
 
 module _ (f : Float → ℕ) (xs : List Float) (out₀ : List ℕ) where
-  -- there are too few places, or enough
-  pub no-room : length out₀ < length xs → fitted (length out₀) (map f xs) ≡ refused Room
-  no-room h = rw (lt-leb (length (map f xs)) (length out₀) (omega (arith, length-map xs f)))
-
-  pub has-room : length xs ≤ length out₀ → fitted (length out₀) (map f xs) ≡ answered (map f xs)
-  has-room h = rw (le-leb (length (map f xs)) (length out₀) (omega (arith, length-map xs f)))
-
   -- the first i are stored
   abbrev pub Stored : List ℕ → ℕ → Type 0
   Stored out i = out ≡ paste out₀ 0 (map f xs) i

@@ -5,10 +5,10 @@ use mathlib.Core.Bool.{Bool, true, false, true≢false}
 use native.Mathlib.Nat.{mul-pos}
 use native.Mathlib.Omega.{arith}
 use lib.Dec.{lit<}
-use lib.IntN.{pos}
-use lib.Ieee.{Float, nan, inf, fin, up, down, lt}
+use lib.Ieee.{Float, nan, inf, fin, up, down, lt, ofBits}
 use lib.Ieee.Fits.{down-pos}
 use borrow.Author.Tests.{le-leb}
+use Rattle.sbr_floats.specs.Floats.{floor64}
 use Rattle.sbr_quantise.specs.Quantise.{attains, lastUpTo, valueBy, quantised}
 use Rattle.sbr_quantise.specs.Octaves.{parts, Scales}
 use Rattle.sbr_quantise.proofs.Largest.{value-at}
@@ -16,8 +16,8 @@ use Rattle.sbr_quantise.proofs.Edges.{largest-at}
 use Rattle.sbr_quantise.proofs.Octaves.{tested, tested-not}
 
 -- what is not above 64 has the value 0
-value-none : (p top : ℕ) (x : Float) → lt (fin false 1 (pos 6)) x ≡ false → valueBy p top x ≡ 0
-unfolding valueBy lt
+value-none : (p top : ℕ) (x : Float) → lt floor64 x ≡ false → valueBy p top x ≡ 0
+unfolding valueBy lt ofBits
 value-none p top nan h = refl
 value-none p top (inf true) h = refl
 value-none p top (inf false) h = absurd (true≢false h)
@@ -25,14 +25,14 @@ value-none p top (fin true m e) h = refl
 value-none p top (fin false m e) h = rw (le-leb (m * up e) (64 * down e) (tested-not m e h))
 
 -- with either step
-pub quantised-none : (ampRes : Bool) (x : Float) → lt (fin false 1 (pos 6)) x ≡ false → quantised ampRes x ≡ 0
+pub quantised-none : (ampRes : Bool) (x : Float) → lt floor64 x ≡ false → quantised ampRes x ≡ 0
 quantised-none true x h = value-none 2 63 x h
 quantised-none false x h = value-none 4 127 x h
 
 -- what is above 64 has h for each octave and what its part attains, held to the highest value
-pub value-some : (h top : ℕ) (x : Float) (o t j q : ℕ) → (0 < h) × (top ≤ 1018) × (t < parts) → lt (fin false 1 (pos 6)) x ≡ true → Scales x o t
+pub value-some : (h top : ℕ) (x : Float) (o t j q : ℕ) → (0 < h) × (top ≤ 1018) × (t < parts) → lt floor64 x ≡ true → Scales x o t
     → j ≡ lastUpTo (attains (2 * h) (parts + t) parts) h → q ≡ h * o + j → min q top ≡ valueBy (2 * h) top x
-unfolding valueBy lt
+unfolding valueBy lt ofBits
 value-some h top nan o t j q b l s i r = absurd s
 value-some h top (inf true) o t j q b l s i r = absurd (true≢false (s .0))
 value-some h top (inf false) o t j q b l s i r =

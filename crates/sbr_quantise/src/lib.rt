@@ -16,8 +16,8 @@ ghost use Rattle.sbr_quantise.specs.Octaves.{parts, Scales};
 // 2 to the power 52.
 const PARTS: u64 = 0x10_0000_0000_0000;
 
-// The octave of 64 in the bits of a double.
-const OCTAVE_64: u64 = 1029;
+// The exponent field of 64, under which the octaves begin.
+const EXPONENT_64: u64 = 1029;
 
 // The least parts that attain a further value within an octave: 2 to the power 1/2 for the coarse step, 1/4 and 3/4 for the fine one.
 const COARSE_EDGE: u64 = 1865452045155277;
@@ -26,7 +26,7 @@ const FINE_EDGE: u64 = 852113092622102;
 
 const FINE_EDGE_2: u64 = 3070521937417134;
 
-// The highest values.
+// The highest value of each step: six bits, seven bits.
 const MAX_COARSE: u8 = 63;
 
 const MAX_FINE: u8 = 127;
@@ -44,7 +44,7 @@ fn scale_of(energy: f64) -> Scaled
 {
     let bits = f64::to_bits(energy);
     Scaled {
-        octave: bits / PARTS - OCTAVE_64,
+        octave: bits / PARTS - EXPONENT_64,
         part: bits % PARTS,
     }
 }
@@ -69,7 +69,7 @@ fn fine_values(part: u64) -> u64
     }
 }
 
-// A value held to the highest one.
+// The smaller of the two: a number that is attained may be past the highest value.
 fn held(value: u64, top: u8) -> u8
     ensures { λ r. ⌜ r ≡ min value top ⌝ }
 {

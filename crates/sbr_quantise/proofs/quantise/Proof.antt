@@ -3,7 +3,6 @@ use mathlib.Core.Path.{refl, sym, _∙_}
 use native.Mathlib.Omega.{arith}
 use borrow.Author.Needs.{needs}
 use lib.Dec.{lit≤, lit<}
-use lib.Ieee.{ofBits}
 use Rattle.sbr_quantise.proofs.Values.{quantised-none, value-some}
 use Rattle.sbr_quantise.proofs.quantise.Statement.{statement}
 use Rattle.sbr_quantise.proofs.quantise.Tie as tie
@@ -33,7 +32,6 @@ held-requires-2 : tie.Need-held-requires-2
 held-requires-2 c κs = search needs
 
 returns : tie.Need-returns
-unfolding ofBits
 returns c =
     let t : tie.Then2 = c .before .before .before in
     let s : tie.After-scale-of = t .before in
@@ -42,7 +40,6 @@ returns c =
     ∙ value-some 1 63 (s .before .before .args .energy) _ _ _ _ (lit< tt, lit≤ tt, s .scale-of .ensures .2) (s .before .if1 .taken) (s .scale-of .ensures .0) (c .before .before .coarse-values .ensures .0) (omega arith))
 
 returns-2 : tie.Need-returns-2
-unfolding ofBits
 returns-2 c =
     let t : tie.Else2 = c .before .before .before in
     let s : tie.After-scale-of = t .before in
@@ -51,7 +48,6 @@ returns-2 c =
     ∙ value-some 2 127 (s .before .before .args .energy) _ _ _ _ (lit< tt, lit≤ tt, s .scale-of .ensures .2) (s .before .if1 .taken) (s .scale-of .ensures .0) (c .before .fine-values .ensures .0) refl)
 
 returns-3 : tie.Need-returns-3
-unfolding ofBits
 returns-3 c = sym (quantised-none (c .before .args .amp-res) (c .before .args .energy) (c .if1 .left))
 
 pub quantise-spec : {M : Type 1} → statement M

@@ -2,22 +2,19 @@
 use mathlib.Core.Path.{sym, subst}
 use native.Mathlib.Omega.{arith}
 use lib.Dec.{T}
-use lib.Ieee.{binary64, ofBits}
+use lib.Ieee.{binary64}
 use lib.Ieee.Bits.{toBits-lt}
-use Rattle.sbr_quantise.proofs.Octaves.{scales, number}
+use Rattle.sbr_quantise.proofs.Octaves.{scales, not-nan}
 use Rattle.sbr_quantise.proofs.scale_of.Statement.{statement}
 use Rattle.sbr_quantise.proofs.scale_of.Tie as tie
 
 float-to-bits-bits : tie.Need-float-to-bits-bits
-unfolding ofBits
-float-to-bits-bits c = rw (number (c .args .energy) (c .pre)) tt
+float-to-bits-bits c = rw (not-nan (c .args .energy) (c .pre)) tt
 
 sub-t4 : tie.Need-sub-t4
-unfolding ofBits
 sub-t4 c = scales (c .args .energy) (c .good .0 .1) (c .pre) .0
 
 returns : tie.Need-returns
-unfolding ofBits
 returns c = (
   scales (c .args .energy) (c .good .0 .1) (c .pre) .1,
   omega (arith, toBits-lt binary64 (c .args .energy) (subst T (sym (c .good .0 .1)) tt)),
