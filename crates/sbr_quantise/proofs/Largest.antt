@@ -45,7 +45,7 @@ module _ (t : ℕ → Bool) where
           let i : suc n ≡ k = omega arith in
           absurd (false≢true (sym e ∙ ap t i ∙ p))
 
-  -- of a test that is passed up to q and not past it
+  -- it is q, or n where that is less, of a test that is passed up to q and not past it
   last-is : (q n : ℕ) → ((k : ℕ) → k ≤ q → t k ≡ true) → ((k : ℕ) → q < k → t k ≡ false) → lastUpTo t n ≡ min q n
   unfolding lastUpTo
   last-is q zero f g = omega arith
@@ -85,7 +85,7 @@ module _ (p a d : ℕ) (l : d ≤ a) where
   pub not-met : (q : ℕ) → attains p a d q ≡ false → Attains p a d q → ⊥
   not-met q f h = omega (arith, leb-false (2 ^ (2 * q) * d ^ p) (2 * a ^ p) f, meets q h)
 
--- a number that is met is at most doubled the power
+-- a number that is met is at most twice the power
 bounded : (p a d q : ℕ) → 0 < d → Meets p a d q → q ≤ 2 * a ^ p
 bounded p a d q c r =
     let x : 2 ^ (2 * q) * 1 ≤ 2 ^ (2 * q) * d ^ p = mul-le-mul-left (2 ^ (2 * q)) (one-le-pow p d c) in

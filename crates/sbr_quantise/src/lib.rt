@@ -16,13 +16,13 @@ ghost use Rattle.sbr_quantise.specs.Octaves.{parts, Scales};
 // 2 to the power 52.
 const PARTS: u64 = 0x10_0000_0000_0000;
 
-// The exponent field of 64, under which the octaves begin.
+// The exponent field of 64: octaves count from it.
 const EXPONENT_64: u64 = 1029;
 
 // The least parts that attain a further value within an octave: 2 to the power 1/2 for the coarse step, 1/4 and 3/4 for the fine one.
 const COARSE_EDGE: u64 = 1865452045155277;
 
-const FINE_EDGE: u64 = 852113092622102;
+const FINE_EDGE_1: u64 = 852113092622102;
 
 const FINE_EDGE_2: u64 = 3070521937417134;
 
@@ -62,7 +62,7 @@ fn fine_values(part: u64) -> u64
 {
     if FINE_EDGE_2 <= part {
         2
-    } else if FINE_EDGE <= part {
+    } else if FINE_EDGE_1 <= part {
         1
     } else {
         0
