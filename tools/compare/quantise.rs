@@ -1,4 +1,4 @@
-//! Quantised energies: the program beside the Rust, and both beside the order's rule in whole numbers.
+//! Quantised energies: the program beside the Rust, and beside the order's rule in whole numbers.
 use crate::frames::Rng;
 use crate::{add, port, Counts};
 use oracle::sbr_encoder::quantise_envelopes;

@@ -69,8 +69,8 @@ fn fine_values(part: u64) -> u64
     }
 }
 
-// The smaller of the two: a number that is attained may be past the highest value.
-fn held(value: u64, top: u8) -> u8
+// A number that is attained, or the highest value where that is less.
+fn at_most(value: u64, top: u8) -> u8
     ensures { λ r. ⌜ r ≡ min value top ⌝ }
 {
     if value < top as u64 { value as u8 } else { top }
@@ -83,9 +83,9 @@ fn quantise(energy: f64, amp_res: bool) -> u8
     if energy > 64.0 {
         let scaled = scale_of(energy);
         if amp_res {
-            held(scaled.octave + coarse_values(scaled.part), MAX_COARSE)
+            at_most(scaled.octave + coarse_values(scaled.part), MAX_COARSE)
         } else {
-            held(2 * scaled.octave + fine_values(scaled.part), MAX_FINE)
+            at_most(2 * scaled.octave + fine_values(scaled.part), MAX_FINE)
         }
     } else {
         0
