@@ -1,6 +1,6 @@
 /*
- * Writes four frames, the third with an attack marked at its very end, reads them back and prints what was read; then elects the grid of a
- * frame with an attack and prints its energies, each with its values by the coarse and by the fine step.
+ * Writes four frames, the third with an attack marked at its very end, reads them back and prints what was read; prints the record for borders
+ * that are named; then elects the grid of a frame with an attack and prints its energies, each with its values by the coarse and by the fine step.
  */
 #include "sbr_grid.h"
 
@@ -65,6 +65,22 @@ int main(void)
         printf("%s%s; next position %" PRIu64 ", border %" PRId32 "\n", begins ? ", begins on an attack" : "", attack ? ", marks an attack at its very end" : "",
                position, border);
     }
+
+    /* the record for named borders, which sbr_write_grid takes as it is; and borders that no grid has */
+    const int32_t borders[4] = {0, 10, 12, 16}, odd[4] = {0, 11, 13, 16};
+    uint32_t named[SBR_NUMBERS];
+    uint8_t named_res[SBR_MAX_ENVELOPES], named_0[SBR_MAX_REL_BORD], named_1[SBR_MAX_REL_BORD];
+    r = sbr_grid_for_borders(16, borders, 4, low, 3, 1, named, named_res, named_0, named_1);
+    if (r != 0)
+        return refused("named borders", r);
+    printf("borders 0 10 12 16, mark 1: %s, trailing lengths", CLASSES[named[SBR_FRAME_CLASS]]);
+    for (uint32_t i = 0; i < named[SBR_NUM_REL_1]; i++)
+        printf(" %u", named_1[i]);
+    printf(", pointer %" PRIu32 "\n", named[SBR_POINTER]);
+    r = sbr_grid_for_borders(16, odd, 4, low, 3, 1, named, named_res, named_0, named_1);
+    if (r != SBR_REFUSED_NO_GRID)
+        return refused("borders that no grid has", r);
+    printf("borders 0 11 13 16, mark 1: no grid\n");
 
     /* a frame with an attack in slot 10 */
     static double samples[SBR_SAMPLES_16];

@@ -1,6 +1,6 @@
 /*
  * The SBR time grid for a C host: electing a frame's grid from its samples, its envelopes' energies and their quantised values, reading
- * and writing sbr_grid() (ISO/IEC 14496-3, Table 4.69) and its time grid (4.6.18.3.3).
+ * and writing sbr_grid() (ISO/IEC 14496-3, Table 4.69), its time grid (4.6.18.3.3), and the grid for borders that are named.
  *
  * Link with the static library that `rt staticlib sbr_c` makes (target/staticlib/libsbr_c.a).
  *
@@ -31,7 +31,8 @@ enum {
     SBR_REFUSED_TIME_GRID = 6,  /* a record that has no time grid */
     SBR_REFUSED_BITS_END = 7,   /* the bits end before a field is complete, or the position lies past them */
     SBR_REFUSED_COUNT = 8,      /* FIXFIX code 3, or VARVAR with more than 5 envelopes */
-    SBR_REFUSED_CHAIN = 9       /* the frame does not begin where the one before it ended */
+    SBR_REFUSED_CHAIN = 9,      /* the frame does not begin where the one before it ended */
+    SBR_REFUSED_NO_GRID = 10    /* no grid that can be written has the borders, resolutions and mark that are named */
 };
 
 /* Frame classes (bs_frame_class). */
@@ -54,7 +55,7 @@ enum { SBR_MAX_ENERGIES = 5 * 64 };
 /* The highest values that sbr_quantise_envelopes gives, by its step. */
 enum { SBR_MAX_COARSE = 63, SBR_MAX_FINE = 127 };
 
-/* Places in the numbers that sbr_read_grid and sbr_elect_grid give. */
+/* Places in the numbers of a record that a call gives. */
 enum {
     SBR_FRAME_CLASS = 0,
     SBR_NUM_ENV = 1,   /* bs_num_env: how many of freq_res, and of t_e less one, are in use */
@@ -135,6 +136,24 @@ uint32_t sbr_read_grid(const uint8_t *bytes, size_t bytes_len, uint64_t num_time
                        uint8_t freq_res[SBR_MAX_ENVELOPES], uint8_t rel_bord_0[SBR_MAX_REL_BORD],
                        uint8_t rel_bord_1[SBR_MAX_REL_BORD], uint32_t t_e[SBR_MAX_BORDERS],
                        uint32_t t_q[SBR_MAX_NOISE_BORDERS], int32_t *l_a);
+
+/*
+ * The grid for borders that are named: the record whose time grid has exactly these borders and this mark, with these resolutions, as
+ * sbr_read_grid gives it for its bits; sbr_write_grid takes it, wherever there is room. Of several such records it is the one with the fewest
+ * written bits, then the smaller class, fewer leading lengths, the smaller pointer. Its noise borders are those of its pointer.
+ * Refused by 1, then 5 (a resolution above 1), then 10, exactly where no record that can be written has them: also unless there are
+ * two to six borders and one resolution fewer.
+ *
+ * num_time_slots                15 or 16
+ * borders, borders_len          the borders in slots, the first to the last; all of the range, any numbers
+ * resolutions, resolutions_len  a byte for each envelope: 1 for high resolution, 0 for low; all of the range
+ * l_a                           the marked envelope, -1 for none; the envelope count marks an attack at the very end of the frame
+ * numbers, freq_res, rel_bord_0, rel_bord_1    the record, as in sbr_read_grid
+ */
+uint32_t sbr_grid_for_borders(uint64_t num_time_slots, const int32_t *borders, size_t borders_len, const uint8_t *resolutions,
+                              size_t resolutions_len, int32_t l_a, uint32_t numbers[SBR_NUMBERS],
+                              uint8_t freq_res[SBR_MAX_ENVELOPES], uint8_t rel_bord_0[SBR_MAX_REL_BORD],
+                              uint8_t rel_bord_1[SBR_MAX_REL_BORD]);
 
 /*
  * Elects the grid of a frame from its samples. Refused by 1, then 5 (variable_borders above 1), then 3, then 2.

@@ -66,6 +66,14 @@ static void quantise(void)
     result = sbr_quantise_envelopes(energies, SBR_MAX_ENERGIES, amp_res, values, SBR_MAX_ENERGIES);
 }
 
+/* Borders that VarVar alone can send, with 3 leading lengths: every shape is tried. */
+static void name(void)
+{
+    const int32_t borders[SBR_MAX_BORDERS] = {1, 3, 5, 7, 10, 18};
+    const uint8_t resolutions[SBR_MAX_ENVELOPES] = {1, 0, 1, 0, 1};
+    result = sbr_grid_for_borders(slots, borders, SBR_MAX_BORDERS, resolutions, SBR_MAX_ENVELOPES, 2, numbers, freq_res, rel_0, rel_1);
+}
+
 static void send(void)
 {
     position = 3;
@@ -108,7 +116,7 @@ int main(void)
         void (*call)(void);
     } CALLS[] = {{"sbr_elect_grid", elect},  {"sbr_derive_time_grid", derive},     {"sbr_write_grid", write_it},
                  {"sbr_read_grid", read_it}, {"sbr_estimate_envelopes", estimate}, {"sbr_quantise_envelopes", quantise},
-                 {"sbr_send_frame", send}};
+                 {"sbr_send_frame", send}, {"sbr_grid_for_borders", name}};
     enum { COUNT = sizeof CALLS / sizeof CALLS[0] };
     size_t deepest[COUNT] = {0}, ground = depth(empty);
     for (slots = 15; slots <= 16; slots++)

@@ -1,5 +1,5 @@
 /*
- * Random, truncated and damaged inputs for the reader and the writer, and any energies to be quantised, in memory that is guarded on both sides of each range: a page that
+ * Random, truncated and damaged inputs for the reader and the writer, any energies to be quantised and any borders that are named, in memory that is guarded on both sides of each range: a page that
  * can't be touched stands directly behind the range, or directly before it. What a call may not touch is compared after it.
  *
  * usage: damage CASES SEED
@@ -13,7 +13,7 @@
 #include <sys/mman.h>
 #include <unistd.h>
 
-enum { MAX_BYTES = 24, MAX_VALUES = 12, BESIDE = 16, RANGES = 4, KINDS = 4, NUMBERS_SIZE = SBR_NUMBERS * 4 };
+enum { MAX_BYTES = 24, MAX_VALUES = 12, MAX_NAMED = 9, BESIDE = 16, RANGES = 4, KINDS = 4, REFUSALS = 11, NUMBERS_SIZE = SBR_NUMBERS * 4 };
 
 static const char *const KIND_NAMES[KINDS] = {"random bytes", "streams", "truncated streams", "damaged streams"};
 
@@ -146,7 +146,7 @@ static uint32_t write_some(uint8_t *bytes, size_t length, uint64_t *position, in
     return sbr_write_grid(bytes, length, position, class, n, freq_res, flags, b0, b1, first, rel_0, n0, second, rel_1, n1, pointer);
 }
 
-static uint64_t written, filled, lists, quantised, unwritten[10], unquantised[10], answers[10], kinds[KINDS], ended_on_attack, began_on_attack;
+static uint64_t written, filled, lists, quantised, unwritten[REFUSALS], unquantised[REFUSALS], named[REFUSALS], answers[REFUSALS], kinds[KINDS], ended_on_attack, began_on_attack;
 
 /* The bytes of a page beside a range, on the side that is not guarded. */
 static uint8_t *beside(uint8_t *bytes, size_t length, int at_end) { return at_end ? bytes - BESIDE : bytes + length; }
@@ -226,6 +226,59 @@ static void try_quantise(uint64_t number)
         unquantised[r]++;
 }
 
+/* A border or a mark: mostly one that a frame may have. */
+static int32_t some_number(int32_t from, uint32_t span) { return one_in(32) ? (int32_t)(uint32_t)next() : from + (int32_t)below(span); }
+
+/* Borders of any number, most of them rising, are named: a refusal changes nothing, an answer is a record that is written and read back as it is, with what was named. */
+static void try_named(uint64_t number)
+{
+    int at_end = one_in(2);
+    size_t count = one_in(8) ? (size_t)below(MAX_NAMED) : 2 + (size_t)below(3), flags = one_in(16) ? (size_t)below(MAX_NAMED) : count - (count > 0);
+    int32_t *borders = (int32_t *)(void *)range(in_memory[0], 4 * count, at_end), kept[MAX_NAMED];
+    uint64_t slots = one_in(32) ? next() : 15 + below(2);
+    for (size_t i = 0; i < count; i++)
+        borders[i] = i == 0 ? some_number(-1, 5) : i + 1 == count ? some_number((int32_t)(slots & 31) - 1, 6) : some_number(kept[i - 1] + 1, 7), kept[i] = borders[i];
+    uint8_t *resolutions = range(in_memory[1], flags, at_end), kept_flags[MAX_NAMED];
+    int high = 0;
+    for (size_t i = 0; i < flags; i++) {
+        resolutions[i] &= one_in(64) ? 3 : 1;
+        high |= resolutions[i] > 1;
+        kept_flags[i] = resolutions[i];
+    }
+    int32_t mark = some_number(-2, (uint32_t)count + 3);
+    uint8_t before[128], after[128];
+    struct outputs o = outputs(at_end);
+    size_t n = gathered(o, before);
+    uint32_t r = sbr_grid_for_borders(slots, borders, count, resolutions, flags, mark, o.numbers, o.freq_res, o.rel_0, o.rel_1);
+    gathered(o, after);
+    if (memcmp(borders, kept, 4 * count) != 0 || memcmp(resolutions, kept_flags, flags) != 0)
+        fail("naming borders changed what was handed in", number);
+    uint32_t first = slots != 15 && slots != 16 ? SBR_REFUSED_SLOT_COUNT : high ? SBR_REFUSED_RECORD : 0;
+    if (first != 0 ? r != first : r != 0 && r != SBR_REFUSED_NO_GRID)
+        fail("naming borders answered another number", number);
+    named[r]++;
+    if (r != 0) {
+        if (memcmp(before, after, n) != 0)
+            fail("a refused naming changed something", number);
+        return;
+    }
+    uint8_t bytes[4], res[SBR_MAX_ENVELOPES], rel_0[SBR_MAX_REL_BORD], rel_1[SBR_MAX_REL_BORD];
+    uint64_t position = 0, at = 0;
+    uint32_t attack = 0, begins, numbers[SBR_NUMBERS], t_e[SBR_MAX_BORDERS], t_q[SBR_MAX_NOISE_BORDERS];
+    int32_t border = kept[0] + (int32_t)slots, l_a;
+    if (sbr_write_grid(bytes, sizeof bytes, &position, o.numbers[0], o.numbers[1], o.freq_res, 5, (uint8_t)o.numbers[3], (uint8_t)o.numbers[4], o.rel_0, 4, o.numbers[5], o.rel_1, 4,
+                       o.numbers[6], (uint8_t)o.numbers[7]) != 0 ||
+        sbr_read_grid(bytes, sizeof bytes, slots, &at, &border, &attack, &begins, numbers, res, rel_0, rel_1, t_e, t_q, &l_a) != 0)
+        fail("a record for named borders is not written or not read", number);
+    if (memcmp(numbers, o.numbers, NUMBERS_SIZE) != 0 || memcmp(res, o.freq_res, 5) != 0 || memcmp(rel_0, o.rel_0, 4) != 0 || memcmp(rel_1, o.rel_1, 4) != 0)
+        fail("the reader gives another record", number);
+    if (l_a != mark || numbers[SBR_NUM_ENV] + 1 != count || memcmp(res, kept_flags, flags) != 0)
+        fail("a record has another mark, count or resolution", number);
+    for (size_t i = 0; i < count; i++)
+        if ((int32_t)t_e[i] != kept[i])
+            fail("a record has other borders", number);
+}
+
 /* Reads until a refusal, which must leave everything as it was; the flag that a frame leaves is handed in to the next reading. */
 static void read_all(const uint8_t *bytes, size_t length, uint64_t start, int32_t border, uint64_t slots, uint64_t number, int at_end)
 {
@@ -300,10 +353,10 @@ static void try_read(uint64_t number)
     read_all(bytes, length, start, border, slots, number, at_end);
 }
 
-static void print_counts(const char *what, const uint64_t counts[10])
+static void print_counts(const char *what, const uint64_t counts[REFUSALS])
 {
     printf("%s:", what);
-    for (int i = 0; i < 10; i++)
+    for (int i = 0; i < REFUSALS; i++)
         if (counts[i] != 0)
             printf(" %d: %" PRIu64, i, counts[i]);
     printf("\n");
@@ -327,7 +380,9 @@ int main(int argc, char **argv)
     }
     for (uint64_t i = 0; i < cases; i++)
         try_quantise(i);
-    printf("damage: seed %s, %" PRIu64 " each of writes, inputs read to their first refusal and lists of energies quantised, nothing outside a range touched\n", argv[2], cases);
+    for (uint64_t i = 0; i < cases; i++)
+        try_named(i);
+    printf("damage: seed %s, %" PRIu64 " each of writes, inputs read to their first refusal, lists of energies quantised and lists of borders named, nothing outside a range touched\n", argv[2], cases);
     for (int i = 0; i < KINDS; i++)
         printf("  %s: %" PRIu64 "\n", KIND_NAMES[i], kinds[i]);
     printf("writes answered: %" PRIu64 ", of which %" PRIu64 " fill their last byte\n", written, filled);
@@ -336,6 +391,7 @@ int main(int argc, char **argv)
     print_counts("readings by number (0: a frame)", answers);
     printf("lists quantised: %" PRIu64 "\n", quantised);
     print_counts("lists not quantised, by number", unquantised);
+    print_counts("lists of borders by number (0: a record)", named);
     printf("frames that mark an attack at their very end: %" PRIu64 ", that begin on one: %" PRIu64 "\n", ended_on_attack, began_on_attack);
     return 0;
 }

@@ -8,7 +8,7 @@ use lib.IntN.{ℤ}
 use Rattle.bits.specs.Bits.{bitN}
 use Rattle.sbr_grid.specs.declared.SbrGrid.{SbrGrid}
 use Rattle.sbr_grid.specs.declared.Refusal.{Refusal}
-use Rattle.sbr_grid.specs.declared.Refusal.the-variants.{SlotCount, Samples, Tables, Room, Record, TimeGrid as NoTimes, BitsEnd, EnvelopeCount, Chain}
+use Rattle.sbr_grid.specs.declared.Refusal.the-variants.{SlotCount, Samples, Tables, Room, Record, TimeGrid as NoTimes, BitsEnd, EnvelopeCount, Chain, NoGrid}
 use Rattle.sbr_grid.specs.Refusals.{Outcome, answered, refused, numberOf, answerOf}
 use Rattle.sbr_grid.specs.Grid.{first, viewOf, recordOf, Grid}
 use Rattle.sbr_grid.proofs.First.{first-again}
@@ -27,6 +27,7 @@ numbered NoTimes h = omega arith
 numbered BitsEnd h = omega arith
 numbered EnvelopeCount h = omega arith
 numbered Chain h = omega arith
+numbered NoGrid h = omega arith
 
 module _ {A : Type 0} where
   -- a call whose number is 0 has answered

@@ -37,7 +37,7 @@ fn is_formed(h: Handed, rel_bord_0: &[u8], rel_bord_1: &[u8]) -> bool
 }
 
 // The range has that many flags, each 0 or 1.
-fn is_flagged(range: &[u8], count: usize) -> bool
+pub fn is_flagged(range: &[u8], count: usize) -> bool
     ensures { λ r. ⌜ r ≡ flagged count (now (range .entry)) ⌝ }
 {
     if range.len() < count {
@@ -83,7 +83,7 @@ fn flag(range: &[u8], count: usize, i: usize) -> bool
 }
 
 // The same as flags: high where the byte is 1.
-fn flags(range: &[u8], count: usize) -> [bool; SbrGrid::MAX_NUM_ENV]
+pub fn flags(range: &[u8], count: usize) -> [bool; SbrGrid::MAX_NUM_ENV]
     ensures { λ r. ⌜ r ≡ first false 5 (map (λ b. eqb b 1) (first 0 count (now (range .entry)))) ⌝ }
 {
     [

@@ -61,7 +61,7 @@ fn numbers(grid: SbrGrid) -> [u32; NUMBERS]
     ]
 }
 
-// All places of the lists are given; those past a count are 0 in a record that was read or elected.
+// All places of the lists are given; those past a count are 0 in a record that was read, elected or named by its borders.
 pub fn give_record(
     grid: SbrGrid,
     to_numbers: &mut [u32; NUMBERS],

@@ -7,6 +7,8 @@ use Rattle.sbr_writer.proofs.Puts.{every-write}
 use Rattle.sbr_parse.proofs.Inverse.{reads-back, writes-back}
 use Rattle.sbr_reader.proofs.Frames.{frame-writes}
 use Rattle.sbr_reader.proofs.Flag.{flag-exactly, flag-only-told}
+use Rattle.sbr_named.proofs.Chosen.{named-is-first, no-grid-exactly, clearing-keeps}
+use Rattle.sbr_named.proofs.Limits.{counts-named}
 use Rattle.sbr_choice.proofs.Best.{search-is-least, none-exactly}
 use Rattle.sbr_choice.proofs.Cases.{marked-cases}
 use Rattle.sbr_choice.proofs.Every.{chosen-is-sound}
@@ -23,6 +25,8 @@ use Rattle.sbr_sample.proofs.Seam.{seam}
 use Rattle.sbr_list.proofs.Unprinted.{flag-unprinted}
 use Rattle.sbr_list.proofs.Enough.{enough-input}
 use Rattle.sbr_list.proofs.Settled.{settled-input}
+use Rattle.sbr_text.proofs.Printed.{line-reads}
+use Rattle.sbr_make.proofs.Back.{made-is-read, given-back}
 use Rattle.run_lines.proofs.Tells.{number-tells}
 
 pub claims : Claims
@@ -34,6 +38,13 @@ claims = record {
   enough-input = enough-input;
   settled-input = settled-input;
   flag-unprinted = flag-unprinted;
+  named-is-first = named-is-first;
+  no-grid-exactly = no-grid-exactly;
+  counts-named = counts-named;
+  clearing-keeps = clearing-keeps;
+  line-reads = line-reads;
+  made-is-read = made-is-read;
+  given-back = given-back;
   pointer-width = pointer-width;
   ends-near = ends-near;
   reads-back = reads-back;

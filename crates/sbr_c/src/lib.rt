@@ -1,18 +1,19 @@
 // The calls of the C firmware: plain numbers and ranges of bytes, in and out. Each answers 0, or the number of a refusal, and a
 // refused call leaves everything that was lent as it was. What they do stands in c_bits, c_read, c_elect,
-// c_energies, c_quantise and c_send.
+// c_energies, c_quantise, c_named and c_send.
 use c_values::give::NUMBERS;
 use sbr_grid::SbrGrid;
 use sbr_grid::TimeGrid;
 ghost use lib.ListN.{length};
 ghost use Rattle.sbr_reader.specs.Read.{readGrid};
 ghost use Rattle.c_values.specs.Handed.{handed};
-ghost use Rattle.c_values.specs.Given.{Gives, timeOut};
+ghost use Rattle.c_values.specs.Given.{Gives, recordOut, timeOut};
 ghost use Rattle.c_bits.specs.Calls.{writeCall, timeCall, writeOut};
 ghost use Rattle.c_read.specs.Frames.{carriedIn, frameOut};
 ghost use Rattle.c_elect.specs.Elections.{electCall, electionOut};
 ghost use Rattle.c_energies.specs.Energies.{energyCall, energyOut};
 ghost use Rattle.c_quantise.specs.Quantise.{quantiseCall, quantiseOut};
+ghost use Rattle.c_named.specs.Named.{namedCall};
 ghost use Rattle.c_send.specs.Turns.{sendCall, sendOut};
 
 // sbr_grid() of a record is written at a bit position, which is moved past it; the rest of the byte in which it ends is cleared.
@@ -248,6 +249,35 @@ pub extern "C" fn sbr_quantise_envelopes(energy: &[f64], amp_res: u32, out: &mut
         r (now (out .exit)) ⌝ }
 {
     c_quantise::quantise_envelopes(energy, amp_res, out)
+}
+
+// The record for named borders, resolutions and a mark.
+#[no_mangle]
+pub extern "C" fn sbr_grid_for_borders(
+    num_time_slots: u64,
+    borders: &[i32],
+    resolutions: &[u8],
+    l_a: i32,
+    numbers: &mut [u32; NUMBERS],
+    freq_res: &mut [u8; SbrGrid::MAX_NUM_ENV],
+    rel_bord_0: &mut [u8; SbrGrid::MAX_REL_BORD],
+    rel_bord_1: &mut [u8; SbrGrid::MAX_REL_BORD],
+) -> u32
+    ensures { λ r. ⌜ Gives
+        (namedCall «num_time_slots» (now (borders .entry)) (now (resolutions .entry)) «l_a»)
+        recordOut (now (numbers .entry), now («freq_res» .entry), now («rel_bord_0» .entry), now («rel_bord_1» .entry))
+        r (now (numbers .exit), now («freq_res» .exit), now («rel_bord_0» .exit), now («rel_bord_1» .exit)) ⌝ }
+{
+    c_named::grid_for_borders(
+        num_time_slots,
+        borders,
+        resolutions,
+        l_a,
+        numbers,
+        freq_res,
+        rel_bord_0,
+        rel_bord_1,
+    )
 }
 
 // A transmitter's turn: elects the grid of a frame, writes it at the bit position, where the rest of its last byte is cleared, and moves position and

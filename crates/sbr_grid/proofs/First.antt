@@ -38,6 +38,11 @@ pad d (suc n) (x ∷ xs) h = rw suc-sub-suc (ap {B = List _} (λ t. x ∷ t) (pa
 pub first-pad : {A : Type 0} (d : A) (n k : ℕ) (xs : List A) → length xs ≡ k → k ≤ n → first d n xs ≡ xs ++ replicate (n - k) d
 first-pad d n k xs e h = rw (← e) (pad d n xs (omega arith))
 
+-- as many as the list has are the list
+pub first-all : {A : Type 0} (d : A) (xs : List A) → first d (length xs) xs ≡ xs
+first-all d [] = refl
+first-all d (x ∷ xs) = ap {B = List _} (λ t. x ∷ t) (first-all d xs)
+
 -- ---- a place
 
 -- a place below n is the list's

@@ -3,7 +3,7 @@ use mathlib.Core.Path.{_≡_}
 use mathlib.Core.Bool.{Bool, cond}
 use Prim.Native.Nat.{ℕ}
 use Rattle.sbr_grid.specs.declared.Refusal.{Refusal}
-use Rattle.sbr_grid.specs.declared.Refusal.the-variants.{SlotCount, Samples, Tables, Room, Record, TimeGrid, BitsEnd, EnvelopeCount, Chain}
+use Rattle.sbr_grid.specs.declared.Refusal.the-variants.{SlotCount, Samples, Tables, Room, Record, TimeGrid, BitsEnd, EnvelopeCount, Chain, NoGrid}
 use Rattle.sbr_grid.specs.declared.Answer.{Answer}
 use Rattle.sbr_grid.specs.declared.Answer.the-variants.{Given, Refused}
 
@@ -17,6 +17,7 @@ numberOf TimeGrid = 6
 numberOf BitsEnd = 7
 numberOf EnvelopeCount = 8
 numberOf Chain = 9
+numberOf NoGrid = 10
 
 -- what a call comes to: a full result, or a refusal
 pub data Outcome (A : Type 0) : Type 0 where

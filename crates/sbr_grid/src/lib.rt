@@ -17,8 +17,8 @@ impl FrameClass {
     // The largest class number.
     pub const MAX_CODE: u32 = 3;
 
-    // The class of a number up to 3.
-    fn of_code(code: u32) -> Self
+    // The class of a number up to 3; any other is VarVar's.
+    pub fn of_code(code: u32) -> Self
         ensures { λ r. ⌜ r ≡ classOf code ⌝ }
     {
         match code {
@@ -140,10 +140,12 @@ pub enum Refusal {
     EnvelopeCount,
     // The frame does not begin where the one before it ended.
     Chain,
+    // No writable grid has the borders, resolutions and mark that are named.
+    NoGrid,
 }
 
 impl Refusal {
-    // The number of a refusal, 1 to 9.
+    // The number of a refusal, 1 to 10.
     pub fn number(self) -> u32
         ensures { λ r. ⌜ r ≡ numberOf self ⌝ }
     {
@@ -157,6 +159,7 @@ impl Refusal {
             Refusal::BitsEnd => 7,
             Refusal::EnvelopeCount => 8,
             Refusal::Chain => 9,
+            Refusal::NoGrid => 10,
         }
     }
 }

@@ -13,7 +13,7 @@ use Rattle.bits.specs.Bits.{getBit, bitsAt}
 use Rattle.bits.specs.Room.{endOf, bitsFrom}
 use Rattle.bits.proofs.Stream.{bitsAt-add, bits-alike}
 use Rattle.sbr_grid.specs.declared.Refusal.{Refusal}
-use Rattle.sbr_grid.specs.declared.Refusal.the-variants.{SlotCount, Samples, Tables, Room, Record, TimeGrid, BitsEnd, EnvelopeCount, Chain}
+use Rattle.sbr_grid.specs.declared.Refusal.the-variants.{SlotCount, Samples, Tables, Room, Record, TimeGrid, BitsEnd, EnvelopeCount, Chain, NoGrid}
 use Rattle.sbr_grid.specs.Refusals.{Outcome, answered, refused}
 use Rattle.sbr_grid.specs.Times.{slotCount}
 use Rattle.sbr_parse.specs.Syntax.{sbrGrid}
@@ -95,6 +95,7 @@ not-refused i TimeGrid h = let z : _≡_ {A = ℕ} 0 1 = cc (settled-append (dec
 not-refused i BitsEnd h = let z : _≡_ {A = ℕ} 0 1 = cc (settled-append (decimal i) _ (λ l. omega arith) h) in omega arith
 not-refused i EnvelopeCount h = let z : _≡_ {A = ℕ} 0 1 = cc (settled-append (decimal i) _ (λ l. omega arith) h) in omega arith
 not-refused i Chain h = let z : _≡_ {A = ℕ} 0 1 = cc (settled-append (decimal i) _ (λ l. omega arith) h) in omega arith
+not-refused i NoGrid h = let z : _≡_ {A = ℕ} 0 1 = cc (settled-append (decimal i) _ (λ l. omega arith) h) in omega arith
 
 -- no listing has one byte
 frame-long : (i : ℕ) (f : Accepted) (s : List ℕ) → 2 ≤ length (frameLine i f ++ s)

@@ -9,7 +9,7 @@ use lib.ListN.{length, length-append, length-map}
 use Rattle.sbr_grid.specs.declared.FrameClass.{FrameClass}
 use Rattle.sbr_grid.specs.declared.FrameClass.the-variants.{FixFix, FixVar, VarFix, VarVar}
 use Rattle.sbr_grid.specs.declared.Refusal.{Refusal}
-use Rattle.sbr_grid.specs.declared.Refusal.the-variants.{SlotCount, Samples, Tables, Room, Record, TimeGrid, BitsEnd, EnvelopeCount, Chain}
+use Rattle.sbr_grid.specs.declared.Refusal.the-variants.{SlotCount, Samples, Tables, Room, Record, TimeGrid, BitsEnd, EnvelopeCount, Chain, NoGrid}
 use Rattle.sbr_grid.specs.Refusals.{numberOf}
 use Rattle.sbr_reader.specs.Read.{Accepted}
 use Rattle.sbr_list.specs.declared.text.Line.{Line}
@@ -64,6 +64,7 @@ number-few TimeGrid m h = omega arith
 number-few BitsEnd m h = omega arith
 number-few EnvelopeCount m h = omega arith
 number-few Chain m h = omega arith
+number-few NoGrid m h = omega arith
 
 -- a frame's line has at most 64 bytes
 pub length-frame : (i : ℕ) (f : Accepted) → Short i f → length (frameLine i f) ≤ 64

@@ -158,7 +158,7 @@ fn same(flag: bool, n: usize) -> [bool; SbrGrid::MAX_NUM_ENV]
 }
 
 // The number of noise floors: two, or one for one envelope.
-fn noise_of(num_env: usize) -> usize
+pub fn noise_of(num_env: usize) -> usize
     ensures { λ r. ⌜ r ≡ noiseOf «num_env» ⌝ }
 {
     if 1 < num_env { 2 } else { 1 }

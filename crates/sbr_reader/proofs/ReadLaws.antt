@@ -6,6 +6,7 @@ use Prim.Native.Nat.{ℕ, _+_, _-_, _≤_, min}
 use native.Mathlib.Nat.{sub-self}
 use native.Mathlib.Decide.{decLe}
 use native.Mathlib.Omega.{arith}
+use lib.IntN.{pos}
 use lib.ListN.{length, getD, length-append}
 use Rattle.bits.specs.Bits.{bitsAt}
 use Rattle.bits.specs.Room.{endOf, bitsFrom, windowOf}
@@ -18,15 +19,17 @@ use Rattle.sbr_grid.specs.Refusals.{Outcome, answered, refused}
 use Rattle.sbr_grid.specs.Grid.{Grid, numEnv, viewOf, recordOf}
 use Rattle.sbr_grid.proofs.First.{first-getD}
 use Rattle.sbr_grid.proofs.Laws.{view-record}
+use Rattle.sbr_grid.proofs.Number.{number-so}
 use Rattle.sbr_grid.proofs.Slots.{slots-few}
 use Rattle.sbr_grid.specs.declared.SbrGrid.{SbrGrid}
 use Rattle.sbr_grid.specs.declared.TimeGrid.{TimeGrid}
 use Rattle.sbr_grid.specs.Times.{Times, isNumber, slotCount, timeRecord}
 use Rattle.sbr_time_grid.specs.TimeGrid.{timeGrid}
 use Rattle.sbr_time_grid.proofs.Ends.{time-ends, time-passes}
+use Rattle.sbr_writer.specs.Syntax.{gridBits}
 use Rattle.sbr_parse.specs.Syntax.{sbrGrid}
 use Rattle.sbr_parse.specs.Parse.{Bits, windowBits}
-use Rattle.sbr_reader.specs.Read.{Accepted, marksEnd, meets, timed, readGrid, carrying, leftBy, frameReadOf}
+use Rattle.sbr_reader.specs.Read.{Accepted, marksEnd, meets, timed, parsed, readGrid, carrying, leftBy, frameReadOf}
 use Rattle.sbr_reader.specs.declared.Carried.{Carried}
 use Rattle.sbr_reader.specs.declared.FrameRead.{FrameRead}
 use Rattle.sbr_parse.proofs.Inverse.{sent}
@@ -110,6 +113,17 @@ pub meets-so : (n : ℕ) (c : Carried) (g : Grid) (q : ℕ) (t : Times) → isNu
     → meets n c g q t ≡ answered (frameOf (c .attack) g q t)
 unfolding meets
 meets-so n c g q t h = rw h
+
+-- a record whose bits stand at a position, and whose time grid begins at the carried border, is read there
+pub record-read : (l : List ℕ) (p n : ℕ) (c : Carried) (g : Grid) (t : Times) (rest : List Bool) → bitsFrom l p ≡ gridBits g ++ rest
+    → sbrGrid (gridBits g ++ rest) ≡ answered (g, rest) → timeGrid n g ≡ answered t → c .border ≡ pos (getD (t .tE) 0 0 + n)
+    → readGrid l p n c ≡ answered (frameOf (c .attack) g (p + length (gridBits g)) t)
+unfolding readGrid
+record-read l p n c g t rest e r d m =
+    let k : length (bitsFrom l p) - length rest ≡ length (gridBits g) = omega (arith, ap length e, length-append (gridBits g) rest) in
+    rw (time-passes n g t d .slots) (
+    ap (parsed n c p (length (bitsFrom l p))) (ap sbrGrid e ∙ r) ∙ ap (timed n c g (p + (length (bitsFrom l p) - length rest))) d
+    ∙ rw k (meets-so n c g (p + length (gridBits g)) t (number-so (c .border) (getD (t .tE) 0 0 + n) m)))
 
 -- a record that was read is the view of the record that is handed out
 pub read-view : (bs : List Bool) (g : Grid) (r : List Bool) → sbrGrid bs ≡ answered (g, r) → viewOf (recordOf g) ≡ g

@@ -2,29 +2,28 @@
 use mathlib.Core.Path.{_≡_, refl, sym, ap, _∙_, subst}
 use mathlib.Core.Bool.{Bool, true, false}
 use mathlib.Core.List.{List, _++_}
-use Prim.Native.Nat.{ℕ, zero, suc, _+_, _-_, _≤_}
+use Prim.Native.Nat.{ℕ, zero, suc, _+_, _≤_}
 use native.Mathlib.Omega.{arith}
 use borrow.Author.Tests.{le-ltb}
-use lib.Dec.{T, eqb, eqb-refl}
 use lib.IntN.{pos}
-use lib.ListN.{length, getD, length-append}
+use lib.ListN.{length, getD}
 use Rattle.bits.specs.Room.{bitsFrom}
 use Rattle.sbr_grid.specs.Refusals.{Outcome, answered, refused}
 use Rattle.sbr_grid.specs.Grid.{Grid, numEnv}
-use Rattle.sbr_choice.proofs.Every.{is-true}
 use Rattle.sbr_grid.specs.Times.{Times, slotCount}
 use Rattle.sbr_time_grid.specs.TimeGrid.{timeGrid}
 use Rattle.sbr_time_grid.proofs.Ends.{time-ends, time-passes}
 use Rattle.sbr_writer.specs.Syntax.{gridBits}
 use Rattle.sbr_writer.specs.Write.{Wrote, writeGrid}
 use Rattle.sbr_parse.specs.Syntax.{sbrGrid}
-use Rattle.sbr_reader.specs.Read.{Accepted, marksEnd, meets, timed, parsed, readGrid, carrying}
+use Rattle.sbr_reader.specs.Read.{Accepted, marksEnd, readGrid, carrying}
+use Rattle.sbr_reader.proofs.ReadLaws.{record-read}
 use Rattle.sbr_grid.proofs.Number.{number-not}
 use Rattle.sbr_onsets.specs.Onsets.{leadOf}
 use Rattle.sbr_encoder.specs.Election.{Elected}
 use Rattle.sbr_encoder.specs.Electable.{Electable}
 use Rattle.sbr_encoder.proofs.EveryElection.{not-at-end}
-use Rattle.sbr_run.specs.Run.{Turn, Sent, Turned, next, turn, Terms, Choosing, State, HandsIn, firstBorder, lastBorder, Meets}
+use Rattle.sbr_run.specs.Run.{Turn, Sent, Turned, next, turn, Terms, Choosing, State, HandsIn, lastBorder, Meets}
 use Rattle.sbr_run.specs.Term3.{SoundChoice}
 
 -- ---- a turn that answers
@@ -86,15 +85,9 @@ got f a q = record {
 -- a receiver that stands at its bits, with the border that it meets and any flag, reads it
 pub read-ok : (n b : ℕ) (a : Bool) (q : ℕ) (bytes : List ℕ) (f : Sent) (rest : List Bool) → Good n b f → bitsFrom bytes q ≡ gridBits (f .grid) ++ rest
     → readGrid bytes q n (carrying b a) ≡ answered (got f a q)
-unfolding readGrid meets
 read-ok n b a q bytes f rest h e =
     let m = h .frame-meets in
-    let len : length (bitsFrom bytes q) - length rest ≡ length (gridBits (f .grid)) = omega (arith, ap length e, length-append (gridBits (f .grid)) rest) in
-    let test : eqb b (firstBorder (f .time) + n) ≡ true = is-true _ (subst (λ (k : ℕ). T (eqb b k)) (sym (m .begins)) (eqb-refl b)) in
-    rw (h .slots) (
-    ap (parsed n (carrying b a) q (length (bitsFrom bytes q))) (ap sbrGrid e ∙ h .reads rest)
-    ∙ ap (timed n (carrying b a) (f .grid) (q + (length (bitsFrom bytes q) - length rest))) (m .derived)
-    ∙ rw (test, len, h .last) refl)
+    record-read bytes q n (carrying b a) (f .grid) (f .time) rest e (h .reads rest) (m .derived) (ap pos (sym (m .begins))) ∙ rw (h .last)
 
 -- ---- a chosen frame is one
 

@@ -31,9 +31,9 @@ time-passes n g t e =
     let p = unless-answered (accepts n g) _ _ (s .1) in
     record { slots = s .0; tests = p .0; value = cc (p .1) }
 
--- where the border bytes in use are at most 3, the first border is too, and the last is at most 3 past the last slot
+-- where the border bytes in use are at most 3, the first border is too, and the last is at most 3 past the last slot and not before it
 low : (k : FrameClass) (n a b : ℕ) → byClass k true (leb b 3) (leb a 3) (leb a 3 && leb b 3) ≡ true
-    → (byClass k 0 0 a a ≤ 3) × (byClass k n (n + b) n (n + b) ≤ n + 3)
+    → let last = byClass k n (n + b) n (n + b) in (byClass k 0 0 a a ≤ 3) × (last ≤ n + 3) × (n ≤ last)
 low FixFix n a b e = omega arith
 low FixVar n a b e = omega (arith, leb-true b 3 e)
 low VarFix n a b e = omega (arith, leb-true a 3 e)
@@ -43,6 +43,7 @@ low VarVar n a b e = let p = simp and-eq-true-iff at e in omega (arith, leb-true
 pub record Ends (n : ℕ) (g : Grid) (t : Times) : Type 0 where
   pub start : getD (t .tE) 0 0 ≤ 3
   pub end : getD (t .tE) (numEnv g) 0 ≤ n + 3
+  pub from : n ≤ getD (t .tE) (numEnv g) 0
   pub count : length (t .tE) ≡ numEnv g + 1
   pub few : numEnv g ≤ 5
   pub some : 0 < numEnv g
@@ -52,14 +53,17 @@ ends : (n : ℕ) (g : Grid) → Counts g → bordersFit g ≡ true → Ends n g 
 unfolding tE absBordLead absBordTrail bordersFit
 ends n g c b =
     let l = low (g .frameClass) n (g .varBord0) (g .varBord1) b in
+    let last : getD (times n g .tE) (numEnv g) 0 ≡ byClass (g .frameClass) n (n + g .varBord1) n (n + g .varBord1) =
+    rw (
+      getD-listFrom (tE n g) 0 (numEnv g + 1) (numEnv g) (omega arith),
+      zero-add,
+      ne-eqb (numEnv g) 0 (omega arith),
+      eq-eqb (numEnv g) (numEnv g) refl,
+    ) in
     record {
       start = rw (getD-listFrom (tE n g) 0 (numEnv g + 1) 0 (omega arith)) (l .0);
-      end = rw (
-        getD-listFrom (tE n g) 0 (numEnv g + 1) (numEnv g) (omega arith),
-        zero-add,
-        ne-eqb (numEnv g) 0 (omega arith),
-        eq-eqb (numEnv g) (numEnv g) refl,
-      ) (l .1);
+      end = rw last (l .1);
+      from = rw last (l .2);
       count = length-listFrom (tE n g) 0 (numEnv g + 1);
       few = c .few;
       some = c .some;

@@ -7,7 +7,7 @@ ghost use Rattle.sbr_grid.specs.Grid.{viewOf};
 ghost use Rattle.sbr_writer.specs.Write.{writeGrid, writtenOf, bytesAfter};
 
 mod code;
-mod fits;
+pub mod fits;
 
 // Where a record's bits end, or why none was written.
 pub enum Written {

@@ -1,0 +1,14 @@
+pub mod Lines
+pub mod Named
+pub mod Rooms
+pub mod Adding
+pub mod Lent
+pub mod Reached
+pub mod Streams
+pub mod Holds
+pub mod Links
+pub mod Carries
+pub mod Short
+pub mod Plain
+pub mod Printed
+pub mod Back

@@ -1,0 +1,13 @@
+pub mod Passed
+pub mod Alike
+pub mod Shapes
+pub mod Pointers
+pub mod Exists
+pub mod FirstFrom
+pub mod Chosen
+pub mod Limits
+pub mod Entry
+pub mod Signed
+pub mod Stored
+pub mod Compared
+pub mod Tried

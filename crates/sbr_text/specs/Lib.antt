@@ -1,0 +1,3 @@
+pub mod Parts
+pub mod Code
+pub mod Reads
