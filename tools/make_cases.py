@@ -227,4 +227,5 @@ def main():
     print(len(all_cases), 'cases,', len(data), 'bytes:', ', '.join(f'{end} {count}' for end, count in sorted(ends.items())))
 
 
-main()
+if __name__ == '__main__':
+    main()

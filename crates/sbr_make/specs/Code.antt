@@ -41,7 +41,7 @@ addedOf f o = record { answer = answerOf o; frames = valueOr framesOf f o }
 abbrev pub bytesAdded : List ℕ → Outcome Making → List ℕ
 bytesAdded l o = valueOr (λ m. m .bytes) l o
 
--- the frames so far are such as lines make: the bits have room, and so has a further frame; every byte behind them is 0
+-- the frames so far are such as lines make: the bits have room, and so has a further frame where there are fewer than 255; every byte behind them is 0
 pub record InRoom (m : Making) : Type 0 where
   pub count : m .count ≤ 255
   pub slots : m .slots ≤ 16

@@ -1,5 +1,5 @@
 -- A line of text that names a frame: borders / mark / resolutions, or what `gridlist` prints of one: frame number, class, borders / noise borders / mark /
--- resolutions. Frame number, class and noise borders are read past: they follow from the rest. A number alone is a slot count. Numbers have blanks
+-- resolutions. Frame number, class and noise borders are read past: the grid is chosen by the rest. A number alone is a slot count. Numbers have blanks
 -- between them; further blanks may stand anywhere but inside a number.
 use mathlib.Core.Bool.{Bool, true, false, cond, not, _&&_, _||_}
 use mathlib.Core.List.{List, [], _∷_, _++_}
