@@ -27,7 +27,7 @@ enum {
     SBR_REFUSED_SAMPLES = 2,    /* too few samples */
     SBR_REFUSED_TABLES = 3,     /* the band tables */
     SBR_REFUSED_ROOM = 4,       /* too little room for what is to be written; a position past the end is this */
-    SBR_REFUSED_RECORD = 5,     /* a record that sbr_grid() can't carry or that can't be formed of what was handed in, or a switch above 1 */
+    SBR_REFUSED_RECORD = 5,     /* a record that sbr_grid() can't carry or that can't be formed of what was handed in, or a switch or resolution above 1 */
     SBR_REFUSED_TIME_GRID = 6,  /* a record that has no time grid */
     SBR_REFUSED_BITS_END = 7,   /* the bits end before a field is complete, or the position lies past them */
     SBR_REFUSED_COUNT = 8,      /* FIXFIX code 3, or VARVAR with more than 5 envelopes */
