@@ -2,10 +2,10 @@
 """Makes the texts of which the program make_cases makes streams, and what it must print, which is worked out here from what the README says of a line and from
 the model of named.py.
 
-usage: tools/make_cases.py
+usage: tools/make_cases.py [PROGRAM]
 
 Writes crates/make_cases/stdin and crates/make_cases/stdout, and says how many lines end in each way. Needs no Rust. Seeded, so that it makes the same files
-each time.
+each time. With the path of `gridmake` it writes nothing, but runs that on each text and compares what it writes on standard output and standard error.
 
 A case, its numbers low byte first:
   4 bytes  length of the text
@@ -16,6 +16,8 @@ import collections
 import random
 import re
 import struct
+import subprocess
+import sys
 
 from cases import pack, write
 from named import SLOT_COUNTS, middle, named, reached, written
@@ -85,9 +87,11 @@ def read(line):
 
 def made(text):
     """The stream of a text, or the line that is refused and the refusal."""
-    slots, begin, following, count, bits = 16, 0, None, 0, []
-    lines = text.split('\n')
-    for number, line in enumerate(lines, 1):
+    slots, begin, following, count, bits, end = 16, 0, None, 0, [], -1
+    for number, line in enumerate(text.split('\n'), 1):
+        end += 1 + len(line)
+        if end > MOST_TEXT:
+            return number, 4
         said = read(line)
         if said is None:
             return number, 5
@@ -111,15 +115,20 @@ def made(text):
         begin = borders[0] if not count else begin
         following, count = borders[-1] - slots, count + 1
         bits += written(r, flags)
-    if len(text) > MOST_TEXT:
-        return len(lines), 4
     return bytes([slots, begin + slots, count]) + pack(bits)
 
 
 def case(text):
+    """A text, and the stream that it makes or what is said of the line that is refused."""
     answer = made(text)
-    line = answer.hex() if isinstance(answer, bytes) else f'line {answer[0]} refused {answer[1]}'
-    return struct.pack('<I', len(text)) + text.encode('latin-1'), line
+    return text.encode('latin-1'), answer if isinstance(answer, bytes) else f'line {answer[0]} refused {answer[1]}'
+
+
+def differs(program, text, answer):
+    """Whether the program writes anything but the stream, or but what is said of the refused line on standard error."""
+    done = subprocess.run([program], input=text, capture_output=True, check=False)
+    expected = (answer, b'') if isinstance(answer, bytes) else (b'', answer.encode() + b'\n')
+    return (done.stdout, done.stderr) != expected
 
 
 def numbers(values):
@@ -217,13 +226,22 @@ def cases():
     yield case((GOOD + '\n').ljust(MOST_TEXT))
     yield case((GOOD + '\n').ljust(MOST_TEXT + 1))
     yield case('x'.rjust(MOST_TEXT + 1))
+    yield case(GOOD.ljust(MOST_TEXT) + '\n')
+    # a line that is cut, and one before it that can't be read
+    yield case(('\n' * MOST_TEXT + GOOD)[8:MOST_TEXT + 9])
+    yield case(('x' + '\n' * MOST_TEXT + GOOD)[:MOST_TEXT + 1])
 
 
 def main():
     all_cases = list(dict.fromkeys(cases()))
-    data = b''.join(c for c, _ in all_cases)
-    write('make_cases', data, ''.join(line + '\n' for _, line in all_cases).encode())
-    ends = collections.Counter('refused ' + line.split()[-1] if line.startswith('line') else 'streams' for _, line in all_cases)
+    if len(sys.argv) > 1:
+        wrong = [text for text, answer in all_cases if differs(sys.argv[1], text, answer)]
+        print(len(all_cases), 'texts,', len(wrong), 'differ', *wrong[:3])
+        sys.exit(bool(wrong))
+    data = b''.join(struct.pack('<I', len(text)) + text for text, _ in all_cases)
+    lines = [answer.hex() if isinstance(answer, bytes) else answer for _, answer in all_cases]
+    write('make_cases', data, ''.join(line + '\n' for line in lines).encode())
+    ends = collections.Counter('refused ' + line.split()[-1] if line.startswith('line') else 'streams' for line in lines)
     print(len(all_cases), 'cases,', len(data), 'bytes:', ', '.join(f'{end} {count}' for end, count in sorted(ends.items())))
 
 

@@ -5,4 +5,5 @@ pub mod Put
 pub mod After
 pub mod Turns
 pub mod Room
+pub mod Held
 pub mod Answers

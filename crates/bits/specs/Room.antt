@@ -1,6 +1,7 @@
 -- Where the bits of a range of bytes end, and what putting a field and looking at bits there comes to.
+use mathlib.Core.Path.{_≡_}
 use mathlib.Core.Bool.{Bool, cond, _&&_}
-use mathlib.Core.List.{List}
+use mathlib.Core.List.{List, _++_}
 use Prim.Native.Nat.{ℕ, _+_, _-_, _*_, _^_, min}
 use lib.Dec.{leb}
 use lib.ListN.{length}
@@ -20,6 +21,10 @@ roomFor len p n = leb (p + n) (endOf len)
 -- every bit from the position p on
 abbrev pub bitsFrom : List ℕ → ℕ → List Bool
 bitsFrom l p = bitsAt l p (endOf (length l) - p)
+
+-- bytes hold the bits bs from the position p on, whatever follows
+abbrev pub Holds : List ℕ → ℕ → List Bool → Type 0
+Holds l p bs = (rest : List Bool) × (bitsFrom l p ≡ bs ++ rest)
 
 -- a field of w bits can be put at p: a field has at most 32 bits
 abbrev pub takesField : ℕ → ℕ → ℕ → Bool

@@ -22,7 +22,7 @@ use Rattle.sbr_named.specs.Code.{namedOf}
 use Rattle.sbr_named.proofs.Chosen.{named-is-first, no-grid-exactly}
 use Rattle.sbr_named.proofs.Limits.{limits}
 use Rattle.c_values.specs.Handed.{flagged}
-use Rattle.c_values.specs.Given.{codeOf, RecordGiven, recordOut, Few}
+use Rattle.c_values.specs.Given.{codeOf, recordOut, Few}
 use Rattle.c_values.proofs.Answers.{has-answered, Out, handed-out, RecordAt, shown, shown-record}
 use Rattle.c_read.proofs.Readings.{few-of}
 

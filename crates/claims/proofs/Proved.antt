@@ -27,6 +27,7 @@ use Rattle.sbr_list.proofs.Enough.{enough-input}
 use Rattle.sbr_list.proofs.Settled.{settled-input}
 use Rattle.sbr_text.proofs.Printed.{line-reads}
 use Rattle.sbr_make.proofs.Back.{made-is-read, given-back}
+use Rattle.sbr_make.proofs.Enough.{enough-text}
 use Rattle.run_lines.proofs.Tells.{number-tells}
 
 pub claims : Claims
@@ -45,6 +46,7 @@ claims = record {
   line-reads = line-reads;
   made-is-read = made-is-read;
   given-back = given-back;
+  enough-text = enough-text;
   pointer-width = pointer-width;
   ends-near = ends-near;
   reads-back = reads-back;

@@ -24,6 +24,7 @@ use Rattle.sbr_list.specs.Listing.{FlagUnprinted}
 use Rattle.sbr_list.specs.Enough.{EnoughInput, SettledInput}
 use Rattle.sbr_text.specs.Reads.{LineReads}
 use Rattle.sbr_make.specs.Back.{MadeIsRead, GivenBack}
+use Rattle.sbr_make.specs.Enough.{EnoughText}
 use Rattle.run_lines.specs.Number.{NumberTells}
 
 pub record Claims : Type 1 where
@@ -40,16 +41,18 @@ pub record Claims : Type 1 where
   pub settled-input : SettledInput
   -- no listing depends on the flag
   pub flag-unprinted : FlagUnprinted
-  -- the record for named borders, resolutions and a mark has them, is the reader's, and comes before every other; 10 is given exactly where no writable
-  -- record has them: so outside two to six borders, or unless the resolutions are one fewer. Clearing what a class does not send changes nothing of them
+  -- the record for named borders, resolutions and a mark has them, is the reader's, and comes before every other; after 1, 10 is given exactly where no
+  -- writable record has them: so outside two to six borders, or unless the resolutions are one fewer. Clearing what a class does not send changes nothing of them
   pub named-is-first : NamedIsFirst
   pub no-grid-exactly : NoGridExactly
   pub counts-named : CountsNamed
   pub clearing-keeps : ClearingKeeps
-  -- a line that is printed is read as what it shows; a stream that is made of lines is read as they say, and a list is given back
+  -- a line that is printed is read as what it shows; a stream that is made of lines is read as they say, and a list is given back; bytes past those that
+  -- are read change nothing
   pub line-reads : LineReads
   pub made-is-read : MadeIsRead
   pub given-back : GivenBack
+  pub enough-text : EnoughText
   -- ---- term 2: grids, bits and energies are those of the standard and of the Rust
   -- the width of bs_pointer is the least that tells the envelope count + 1 values apart
   pub pointer-width : PointerWidth

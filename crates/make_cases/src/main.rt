@@ -14,7 +14,7 @@ fn wide(byte: u8) -> usize
     byte as usize
 }
 
-// The length of a text, of its low three bytes, or the most where it is larger.
+// The length of a text, by its low three bytes, or the most where it is larger.
 fn size_of(b: [u8; 4]) -> usize
     ensures { λ r. ⌜ r ≤ 65536 ⌝ }
 {
@@ -39,11 +39,9 @@ fn print_made(text: &[u8]) {
 // Reads a text of that length into the front of a range.
 fn read_text(text: &mut [u8], size: usize)
     requires { ⌜ size ≤ length (now text) ⌝ }
-    ensures { λ r. ⌜ length (now (text .exit)) ≡ length (now (text .entry)) ⌝ }
+    ensures { λ _. ⌜ length (now (text .exit)) ≡ length (now (text .entry)) ⌝ }
 {
-    for i in 0..size {
-        text[i] = case_io::next_byte();
-    }
+    io::read_full(STDIN_FILENO, &mut text[..size]);
 }
 
 // Prints one case; false at the end of the input.

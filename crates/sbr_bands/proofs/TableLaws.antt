@@ -5,14 +5,14 @@ use mathlib.Core.List.{List}
 use Prim.Native.Nat.{ℕ, zero, suc, _+_, _-_, _≤_, _<_}
 use native.Mathlib.Decide.{decLt}
 use native.Mathlib.Omega.{arith}
-use native.Mathlib.Decide.{decLe, ℕ-discrete}
+use native.Mathlib.Decide.{ℕ-discrete}
 use native.Mathlib.Numerals.{add-one}
 use borrow.Author.Tests.{leb-true, eqb-true, eq-eqb, ne-eqb}
 use lib.ListN.{length, getD, set}
 use lib.Seq.{getD-set-same, getD-set-other}
 use Rattle.sbr_time_grid.specs.TimeGrid.{rises}
 use Rattle.sbr_time_grid.proofs.Laws.{untrue}
-use Rattle.sbr_time_grid.proofs.Rises.{rises-more, rises-fails}
+use Rattle.sbr_time_grid.proofs.Rises.{rises-more, rises-fails, rises-step, rises-gap}
 use Rattle.sbr_bands.specs.Tables.{entry, lastEntry, climbs, among, drawn, highFits, lowFits, tablesFit}
 
 -- ---- numbers that rise
@@ -29,26 +29,6 @@ pub climbs-fails : (f : ℕ → ℕ) (n i : ℕ) → 1 ≤ i → i < n → f i �
 climbs-fails f n i h l g =
     let q : i ≡ i - 1 + 1 = omega arith in
     rises-fails f (n - 1) (i - 1) (omega arith) (rw (← q) g)
-
--- each step of numbers that rise
-pub rises-step : (f : ℕ → ℕ) (k j : ℕ) → rises f k ≡ true → j < k → f j < f (j + 1)
-rises-step f k j e h = elim (decLe (f (j + 1)) (f j)) [
-  | yes a ↦ absurd (false≢true (rises-fails f k j h a ∙ e))
-  | no a ↦ omega arith
-]
-
--- d steps of numbers that rise
-rises-by : (f : ℕ → ℕ) (k i d : ℕ) → rises f k ≡ true → i + d ≤ k → f i + d ≤ f (i + d)
-rises-by f k i zero e h = let p : i + 0 ≡ i = omega arith in rw p (omega arith)
-rises-by f k i (suc d) e h =
-    let p : i + suc d ≡ i + d + 1 = omega arith in
-    rw p (omega (arith, rises-by f k i d e (omega arith), rises-step f k (i + d) e (omega arith)))
-
--- a later one of numbers that rise is above an earlier one by the steps between them
-pub rises-gap : (f : ℕ → ℕ) (k i j : ℕ) → rises f k ≡ true → i ≤ j → j ≤ k → f i + (j - i) ≤ f j
-rises-gap f k i j e h l =
-    let p : i + (j - i) ≡ j = omega arith in
-    rw p at (rises-by f k i (j - i) e (omega arith))
 
 -- ---- entries of a table
 

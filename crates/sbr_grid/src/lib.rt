@@ -128,9 +128,9 @@ pub enum Refusal {
     Samples,
     // The band tables.
     Tables,
-    // Too little room for what is to be written.
+    // Too little room for what is to be written, or a text of more frames or bytes than are taken.
     Room,
-    // A record that sbr_grid() can't carry, or that can't be formed of what C hands in.
+    // A record that sbr_grid() can't carry, or that can't be formed of what C hands in; a switch above 1; a line of text that can't be read.
     Record,
     // A record that has no time grid.
     TimeGrid,

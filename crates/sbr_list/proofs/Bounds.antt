@@ -6,17 +6,17 @@ use Prim.Native.Nat.{ℕ, zero, suc, _+_, _-_, _≤_, _<_}
 use native.Mathlib.Nat.{zero-add}
 use native.Mathlib.Omega.{arith}
 use native.Mathlib.Decide.{decLe}
-use borrow.Author.Tests.{ltb-true, lt-ltb, le-ltb, le-leb, lt-leb}
-use lib.Dec.{ltb}
+use borrow.Author.Tests.{lt-ltb, le-ltb, le-leb, lt-leb}
 use lib.IntN.{ℤ, pos, negsuc, _-ℤ_}
 use lib.ListN.{length, getD, List·getD-eq-default}
 use lib.Signed.{mag}
 use Rattle.sbr_grid.specs.Refusals.{answered}
 use Rattle.sbr_grid.specs.Grid.{Grid, numEnv}
 use Rattle.sbr_grid.specs.Times.{Times}
-use Rattle.sbr_time_grid.specs.TimeGrid.{byPointer, rises, tE, tQ, lA, noiseFits, middleBorder, listFrom, times, timeGrid}
+use Rattle.sbr_time_grid.specs.TimeGrid.{byPointer, tE, tQ, lA, noiseFits, middleBorder, listFrom, times, timeGrid}
 use Rattle.sbr_time_grid.proofs.Laws.{each-class}
 use Rattle.sbr_time_grid.proofs.Borders.{length-listFrom, getD-listFrom}
+use Rattle.sbr_time_grid.proofs.Rises.{rises-gap}
 use Rattle.sbr_time_grid.proofs.Marks.{noise-meet}
 use Rattle.sbr_grid.proofs.Slots.{slots-few}
 use Rattle.sbr_time_grid.proofs.Ends.{time-passes, time-ends}
@@ -26,18 +26,6 @@ use Rattle.sbr_reader.proofs.Told.{told-frame}
 use Rattle.sbr_writer.proofs.Writable.{fields-told}
 use Rattle.sbr_reader.proofs.Frames.{frame-writes}
 use Rattle.sbr_list.specs.Line.{Small, ShortTimes, Short}
-
--- no border is above the last one
-under : (f : ℕ → ℕ) (k l : ℕ) → ltb (f k) (f (suc k)) ≡ true → (l ≤ k → f l ≤ f k) → l ≤ suc k → Dec (l ≤ k) → f l ≤ f (suc k)
-under f k l e r h (yes a) = omega (arith, r a, ltb-true (f k) (f (suc k)) e)
-under f k l e r h (no a) = let z : l ≡ suc k = omega arith in rw z (omega arith)
-
-rises-under : (f : ℕ → ℕ) (k l : ℕ) → rises f k ≡ true → l ≤ k → f l ≤ f k
-unfolding rises
-rises-under f zero l e h = let z : l ≡ 0 = omega arith in rw z (omega arith)
-rises-under f (suc k) l e h =
-    let p = simp and-eq-true-iff at e in
-    under f k l (p .1) (λ a. rises-under f k l (p .0) a) h (decLe l k)
 
 -- the numbers of a list that are below a bound at each place
 listed : (f : ℕ → ℕ) (n m k : ℕ) → ((l : ℕ) → l < n → f l < m) → 0 < m → Dec (suc k ≤ n) → getD (listFrom f 0 n) k 0 < m
@@ -84,7 +72,7 @@ module _ (n : ℕ) (g : Grid) (t : Times) (e : timeGrid n g ≡ answered t) (h :
       let p = time-passes n g t e in
       let q = simp and-eq-true-iff at (p .tests) in
       let m = rw (p .value, getD-listFrom (tE n g) 0 (numEnv g + 1) (numEnv g) (omega arith), zero-add) at (time-ends n g t e .end) in
-      omega (arith, rises-under (tE n g) (numEnv g) l (q .0 .1) (omega arith), slots-few n (p .slots))
+      omega (arith, rises-gap (tE n g) (numEnv g) l (numEnv g) (q .0 .1) (omega arith) (omega arith), slots-few n (p .slots))
 
   -- at most three noise borders, and at least one
   noise-few : noiseFits g ≡ true → Dec (numEnv g ≤ 1) → (0 < length (tQ n g)) × (length (tQ n g) ≤ 3) × Small (tQ n g)

@@ -18,7 +18,7 @@ use Rattle.sbr_text.specs.declared.Kind.{Kind}
 use Rattle.sbr_text.specs.Parts.{LineParts, kindOf}
 use Rattle.sbr_make.specs.declared.Frames.{Frames}
 use Rattle.sbr_make.specs.declared.Added.{Added}
-use Rattle.sbr_make.specs.Making.{Making, counting, adding, nameFrame, addingKind, addLine}
+use Rattle.sbr_make.specs.Making.{Making, setSlots, addFrame, nameFrame, addByKind, addLine}
 use Rattle.sbr_make.specs.Code.{makingOf, addedOf, bytesAdded}
 use Rattle.sbr_make.proofs.Rooms.{more}
 
@@ -28,22 +28,22 @@ pub leaves-as : (f : Frames) (l : List ℕ) (o p : Outcome Making) (r : Added) (
 leaves-as f l o p r m h e = rw h e
 
 -- a line adds what its kind does
-pub by-kind : (m : Making) (s : LineParts) (k : Kind) → kindOf s ≡ k → addLine m s ≡ addingKind m s k
+pub by-kind : (m : Making) (s : LineParts) (k : Kind) → kindOf s ≡ k → addLine m s ≡ addByKind m s k
 unfolding addLine
 by-kind m s k h = rw h
 
 module _ (m : Making) (first last : ℕ) (g : Grid) where
   -- a frame that does not begin where the one before it ends is refused
-  pub apart : (eqb (m .count) 0 || eqb first (m .next)) ≡ false → adding m (pos first) (pos last) g ≡ refused Chain
+  pub apart : (eqb (m .count) 0 || eqb first (m .next)) ≡ false → addFrame m (pos first) (pos last) g ≡ refused Chain
   apart e = rw e
 
   -- one too many is refused
-  pub full : (eqb (m .count) 0 || eqb first (m .next)) ≡ true → 255 ≤ m .count → adding m (pos first) (pos last) g ≡ refused Room
+  pub full : (eqb (m .count) 0 || eqb first (m .next)) ≡ true → 255 ≤ m .count → addFrame m (pos first) (pos last) g ≡ refused Room
   full e h = rw (e, le-ltb (m .count) 255 h)
 
   -- any other is added
   pub adds : (eqb (m .count) 0 || eqb first (m .next)) ≡ true → m .count < 255
-      → adding m (pos first) (pos last) g ≡ answered (more m first last g)
+      → addFrame m (pos first) (pos last) g ≡ answered (more m first last g)
   adds e h = rw (e, lt-ltb (m .count) 255 h)
 
 -- what is handed out for a frame that is added
@@ -55,8 +55,8 @@ pub added-is : (f : Frames) (l : List ℕ) (first last : ℕ) (g : Grid) (b n q 
 added-is f l first last g b n q c d e = rw (c, d, e)
 
 -- a frame of the same borders and the same grid adds the same
-pub adding-as : (m : Making) (a b c d : ℤ) (g h : Grid) → a ≡ b → c ≡ d → g ≡ h → adding m a c g ≡ adding m b d h
-adding-as m a b c d g h p q r = rw (p, q, r)
+pub frame-as : (m : Making) (a b c d : ℤ) (g h : Grid) → a ≡ b → c ≡ d → g ≡ h → addFrame m a c g ≡ addFrame m b d h
+frame-as m a b c d g h p q r = rw (p, q, r)
 
 -- so does a line of the same borders, resolutions and mark
 pub named-as : (m : Making) (a b : List ℤ) (c d : List Bool) (y z : ℤ) → a ≡ b → c ≡ d → y ≡ z → nameFrame m a c y ≡ nameFrame m b d z
@@ -69,5 +69,5 @@ slots-as l true false x y m e = refl
 slots-as l false b x y m e = refl
 
 -- a slot count leaves the bytes as they were
-pub slots-keep : (f : Frames) (l : List ℕ) (n : ℕ) → l ≡ bytesAdded l (counting (makingOf f l) n)
+pub slots-keep : (f : Frames) (l : List ℕ) (n : ℕ) → l ≡ bytesAdded l (setSlots (makingOf f l) n)
 slots-keep f l n = slots-as l (eqb (f .count) 0) (slotCount n) _ _ _ refl

@@ -6,32 +6,35 @@ use mathlib.Core.Logic.{inl, inr}
 use Prim.Native.Nat.{ℕ, _+_, _≤_}
 use native.Mathlib.Omega.{arith}
 use native.Mathlib.Decide.{ℕ-discrete}
-use borrow.Author.Tests.{le-leb}
-use lib.Dec.{leb}
 use lib.IntN.{pos}
-use lib.ListN.{length, getD, length-append}
+use lib.ListN.{length, getD}
 use lib.Seq.{append-snoc}
+use Rattle.bits.specs.Room.{Holds}
 use Rattle.sbr_grid.specs.Refusals.{answered}
 use Rattle.sbr_grid.specs.Times.{slotCount}
 use Rattle.sbr_grid.proofs.Slots.{slot-range}
 use Rattle.sbr_reader.specs.Read.{starting}
 use Rattle.sbr_list.specs.Listing.{decimal, linesFrom, listing}
 use Rattle.sbr_list.proofs.Lines.{decimal-two}
-use Rattle.sbr_text.specs.Parts.{LineParts, withByte, withBytes, readLine, kindOf}
-use Rattle.sbr_make.specs.Making.{linesOf, unmade, addLine, streamOf, goesOn, madeFrom, mostText, textStream}
+use Rattle.sbr_text.specs.Parts.{LineParts, readByte, readBytes, readLine, kindOf}
+use Rattle.sbr_make.specs.Making.{linesOf, noFrames, addLine, streamOf, madeFrom, textStream}
 use Rattle.sbr_make.specs.Back.{frameLines, IsRead, MadeIsRead, SaysSlots, GivenBack}
-use Rattle.sbr_make.proofs.Holds.{Holds}
 use Rattle.sbr_make.proofs.Links.{Links, lineBits, read-lines}
-use Rattle.sbr_make.proofs.Carries.{withSlots, Carries, carries}
+use Rattle.sbr_make.proofs.Carries.{withSlots, said, Carries, carries}
 use Rattle.sbr_make.proofs.Plain.{first-line, plain-decimal}
+use Rattle.sbr_make.proofs.Reached.{made-on}
 use Rattle.sbr_make.proofs.Printed.{Lists, printed-short, all-added, listed-again}
 
--- every stream that is made counts its frames, and is read as its lines
+-- every stream that is made is read as its lines
 pub made-is-read : MadeIsRead
-unfolding textStream
+unfolding textStream slotCount
 made-is-read text s e =
-    let d = carries (leb (length text) mostText) 0 16 (linesOf text) s e in
+    let d = carries 0 0 16 (linesOf text) s e in
+    let f = said 0 0 noFrames (linesOf text) s refl e in
     subst (IsRead text) (sym (d .is)) (record {
+      readable = f .readable;
+      slots = rw (d .is) at (f .slots);
+      slot-count = rw (d .is) at (f .taken);
       count = refl;
       lines = read-lines (d .slots) (d .first) (frameLines (linesOf text)) (d .bytes) 0 false (d .links) (d .holds);
     })
@@ -39,8 +42,8 @@ made-is-read text s e =
 -- ---- a list that is given back
 
 -- what a line with a slot count adds before the first frame
-slots-said : (n : ℕ) → slotCount n ≡ true → addLine unmade (readLine (decimal n)) ≡ answered (withSlots unmade n)
-unfolding addLine kindOf readLine withBytes withByte decimal slotCount
+slots-said : (n : ℕ) → slotCount n ≡ true → addLine noFrames (readLine (decimal n)) ≡ answered (withSlots noFrames n)
+unfolding addLine kindOf readLine readBytes readByte decimal slotCount
 slots-said n h = elim (ℕ-discrete n 15) [
   | yes e ↦ rw e
   | no e ↦ let z : n ≡ 16 = omega (arith, slot-range n h) in rw z
@@ -48,16 +51,18 @@ slots-said n h = elim (ℕ-discrete n 15) [
 
 -- the slot count in front, or no line for 16 slots
 begun : (n : ℕ) (head t : List ℕ) → slotCount n ≡ true → SaysSlots n head
-    → (i : ℕ) × (madeFrom true 0 unmade (linesOf (head ++ t)) ≡ madeFrom true i (withSlots unmade n) (linesOf t)) × (length head ≤ 3)
-unfolding madeFrom
-begun n head t h (inl e) = (
-  1,
-  ap (λ x. madeFrom true 0 unmade (linesOf (x ++ t))) e
-      ∙ ap (madeFrom true 0 unmade) (ap linesOf (append-snoc (decimal n) 10 t) ∙ first-line (decimal n) t (plain-decimal n))
-      ∙ ap (goesOn 1 (λ a. madeFrom true 1 a (linesOf t))) (slots-said n h),
-  let r = slot-range n h in rw (e, decimal-two n (omega arith) (omega arith)) (omega arith),
-)
-begun n head t h (inr e) = (0, rw (e .0, e .1) refl, rw (e .0) (omega arith))
+    → (i : ℕ) × (at : ℕ) × (madeFrom 0 0 noFrames (linesOf (head ++ t)) ≡ madeFrom i at (withSlots noFrames n) (linesOf t)) × (at ≤ 3)
+begun n head t h (inl e) =
+    let r = slot-range n h in
+    let two : length (decimal n) ≡ 2 = rw (decimal-two n (omega arith) (omega arith)) in (
+      1,
+      0 + length (decimal n) + 1,
+      ap (λ x. madeFrom 0 0 noFrames (linesOf (x ++ t))) e
+          ∙ ap (madeFrom 0 0 noFrames) (ap linesOf (append-snoc (decimal n) 10 t) ∙ first-line (decimal n) t (plain-decimal n))
+          ∙ made-on 0 0 noFrames (decimal n) (linesOf t) (omega arith) (withSlots noFrames n) (slots-said n h),
+      omega arith,
+    )
+begun n head t h (inr e) = (0, 0, rw (e .0, e .1) refl, omega arith)
 
 -- a stream that carries the frames of lines is listed as they are
 stream-listed : (n : ℕ) (t : List ℕ) (ss : List LineParts) (s : List ℕ) → Lists n 0 ss t → Carries ss s → getD s 0 0 ≡ n → listing s ≡ t
@@ -74,12 +79,12 @@ unfolding textStream listing
 given-back n b k l head h few x said =
     let t = linesFrom l n k 0 0 (starting (pos b)) in
     let g = begun n head t h said in
-    let z = all-added n l k (g .0) 0 0 (starting (pos b)) (withSlots unmade n) refl (omega arith) (omega arith) x (λ q. absurd (omega arith)) in
-    let short : length (head ++ t) ≤ mostText = omega (arith, length-append head t, g .2, printed-short n l k 0 0 (starting (pos b)) x (omega arith)) in
+    let z = all-added n l k (g .0) (g .1) 0 0 (starting (pos b)) (withSlots noFrames n) refl (omega arith) (omega arith) x (λ q. absurd (omega arith))
+    (omega (arith, g .3, printed-short n l k 0 0 (starting (pos b)) x (omega arith))) in
     record {
       bytes = streamOf (z .0);
-      made = rw (le-leb (length (head ++ t)) mostText short) (g .1 ∙ z .1);
+      made = g .2 ∙ z .1;
       listed =
           stream-listed n t (frameLines (linesOf t)) (streamOf (z .0)) (listed-again n l k 0 0 (starting (pos b)) x (omega arith))
-          (carries true (g .0) n (linesOf t) (streamOf (z .0)) (z .1)) (z .2);
+          (carries (g .0) (g .1) n (linesOf t) (streamOf (z .0)) (z .1)) (z .2);
     }

@@ -1,16 +1,17 @@
 -- What lines that were all added have made: the frames that they name, of which the bytes hold the bits.
 use mathlib.Core.Path.{_≡_, refl, sym, ap, _∙_, subst}
-use mathlib.Core.Bool.{Bool, true, false, _||_}
+use mathlib.Core.Bool.{Bool, true, _||_}
 use mathlib.Core.List.{List, [], _∷_}
 use Prim.Native.Nat.{ℕ, suc, _+_, _-_, _/_, _≤_, _<_}
 use native.Mathlib.Nat.{zero-add, add-zero}
 use native.Mathlib.Decide.{ℕ-discrete}
 use native.Mathlib.Omega.{arith}
 use borrow.Author.Tests.{eq-eqb, ne-eqb, eqb-true, ltb-true, lt-ltb}
-use lib.Dec.{eqb, ltb}
+use lib.Dec.{leb, eqb, ltb}
 use lib.IntN.{pos, natAbs}
 use lib.ListN.{length, take, getD, replicate, length-append, length-replicate, length-take}
 use Rattle.bits.specs.Bits.{putBits}
+use Rattle.bits.specs.Room.{Holds}
 use Rattle.bits.proofs.Put.{put-append}
 use Rattle.bits.proofs.After.{length-putBits}
 use Rattle.sbr_grid.specs.Refusals.{Outcome, answered, refused}
@@ -19,15 +20,16 @@ use Rattle.sbr_grid.specs.Times.{slotCount, isNumber}
 use Rattle.sbr_grid.proofs.Number.{number-is, number-so}
 use Rattle.sbr_grid.proofs.Outcomes.{unless-answered}
 use Rattle.sbr_writer.specs.Syntax.{gridBits}
+use Rattle.sbr_writer.specs.Write.{every}
 use Rattle.sbr_named.specs.Shapes.{namedGrid}
 use Rattle.sbr_named.proofs.Chosen.{named-is-first}
 use Rattle.sbr_text.specs.declared.Kind.{Kind}
 use Rattle.sbr_text.specs.declared.Kind.the-variants.{Blank, Slots, Frame, Unreadable}
 use Rattle.sbr_text.specs.Parts.{LineParts, readLine, kindOf}
-use Rattle.sbr_make.specs.Making.{Making, mostBytes, unmade, addingChosen, addingKind, addLine, TextOutcome, complete, streamOf, goesOn, madeFrom}
-use Rattle.sbr_make.specs.Back.{ifFrame, frameLines}
+use Rattle.sbr_make.specs.Making.{Making, mostBytes, noFrames, addChosen, addByKind, addLine, TextOutcome, complete, streamOf, orStopped, mostText, madeFrom}
+use Rattle.sbr_make.specs.Back.{ifFrame, frameLines, slotsAfter, slotsSaid, isReadable}
 use Rattle.sbr_make.proofs.Rooms.{more}
-use Rattle.sbr_make.proofs.Holds.{Holds, put-holds}
+use Rattle.sbr_make.proofs.Holds.{put-holds}
 use Rattle.sbr_make.proofs.Links.{nextStart, Links, lineBits, first-bits, bits-few, named-border}
 
 -- ---- one line
@@ -54,7 +56,7 @@ record Adds (m : Making) (s : LineParts) (a : Making) : Type 0 where
 
 -- what it added, by the choice
 adds : (m a : Making) (s : LineParts) (o : Outcome Grid) → namedGrid (m .slots) (s .borders) (s .flags) (s .mark) ≡ o
-    → addingChosen m (s .borders) o ≡ answered a → Adds m s a
+    → addChosen m (s .borders) o ≡ answered a → Adds m s a
 adds m a s (refused e) c h = let z : _≡_ {A = ℕ} 0 1 = cc in absurd (omega arith)
 adds m a s (answered g) c h =
     let x = unless-answered (chained m s) _ _ h in
@@ -153,7 +155,7 @@ frame-first m p ss s g c t d =
     }
 
 -- a first line, by its kind
-line-first : (m a : Making) (p : LineParts) (k : Kind) (ss : List LineParts) (s : List ℕ) → m .count ≤ 255 → addingKind m p k ≡ answered a
+line-first : (m a : Making) (p : LineParts) (k : Kind) (ss : List LineParts) (s : List ℕ) → m .count ≤ 255 → addByKind m p k ≡ answered a
     → (a .count ≤ 255 → Makes a ss s) → Makes m (ifFrame p k ss) s
 line-first m a p Blank ss s h e f = let z : m ≡ a = cc in subst (λ x. Makes x ss s) (sym z) (f (rw z at h))
 line-first m a p (Slots n) ss s h e f =
@@ -166,20 +168,60 @@ line-first m a p Frame ss s h e f =
     frame-first m p ss s (x .grid) (x .chosen) (x .chain) (subst (λ y. y .count ≤ 255 → Makes y ss s) (sym (x .is)) f (omega (arith, x .room)))
 line-first m a p Unreadable ss s h e f = let z : _≡_ {A = ℕ} 0 1 = cc in absurd (omega arith)
 
--- a line that the next ones follow was not refused
-went-on : (i : ℕ) (next : Making → TextOutcome) (o : Outcome Making) (s : List ℕ) → goesOn i next o ≡ complete s
+-- the next law, by what the first line comes to
+not-stopped : (i : ℕ) (next : Making → TextOutcome) (o : Outcome Making) (s : List ℕ) → orStopped i next o ≡ complete s
     → (a : Making) × (o ≡ answered a) × (next a ≡ complete s)
-went-on i next (answered a) s e = (a, refl, e)
-went-on i next (refused x) s e = let z : _≡_ {A = ℕ} 0 1 = cc in absurd (omega arith)
+not-stopped i next (answered a) s e = (a, refl, e)
+not-stopped i next (refused x) s e = let z : _≡_ {A = ℕ} 0 1 = cc in absurd (omega arith)
+
+-- of lines that make a stream the first one is added, and the others to what it leaves
+went-on : (i at : ℕ) (m : Making) (l : List ℕ) (ls : List (List ℕ)) (s : List ℕ) → madeFrom i at m (l ∷ ls) ≡ complete s
+    → (a : Making) × (addLine m (readLine l) ≡ answered a) × (madeFrom (suc i) (at + length l + 1) a ls ≡ complete s)
+unfolding madeFrom
+went-on i at m l ls s e =
+    let x = not-stopped (suc i) (λ a. madeFrom (suc i) (at + length l + 1) a ls) _ s e in
+    (x .0, unless-answered (leb (at + length l) mostText) _ _ (x .1) .1, x .2)
 
 -- what lines make of which none is refused
-makes : (w : Bool) (i : ℕ) (m : Making) (ls : List (List ℕ)) (s : List ℕ) → m .count ≤ 255 → madeFrom w i m ls ≡ complete s → Makes m (frameLines ls) s
+makes : (i at : ℕ) (m : Making) (ls : List (List ℕ)) (s : List ℕ) → m .count ≤ 255 → madeFrom i at m ls ≡ complete s → Makes m (frameLines ls) s
 unfolding madeFrom frameLines addLine
-makes false i m [] s h e = let z : _≡_ {A = ℕ} 0 1 = cc in absurd (omega arith)
-makes true i m [] s h e = let z : streamOf m ≡ s = cc in subst (λ t. Makes m [] t) z (none-left m h)
-makes w i m (l ∷ ls) s h e =
-    let x = went-on (suc i) (λ a. madeFrom w (suc i) a ls) (addLine m (readLine l)) s e in
-    line-first m (x .0) (readLine l) (kindOf (readLine l)) (frameLines ls) s h (x .1) (λ f. makes w (suc i) (x .0) ls s f (x .2))
+makes i at m [] s h e = let z : streamOf m ≡ s = cc in subst (λ t. Makes m [] t) z (none-left m h)
+makes i at m (l ∷ ls) s h e =
+    let x = went-on i at m l ls s e in
+    line-first m (x .0) (readLine l) (kindOf (readLine l)) (frameLines ls) s h (x .1) (λ f. makes (suc i) (at + length l + 1) (x .0) ls s f (x .2))
+
+-- a line of kind k that is added to frames of n slots leaves the slot count that it says, and can be read
+record Says (n : ℕ) (k : Kind) (a : Making) : Type 0 where
+  slots : a .slots ≡ slotsAfter n k
+  taken : slotCount (a .slots) ≡ true
+  readable : isReadable k ≡ true
+
+line-says : (m a : Making) (p : LineParts) (k : Kind) → slotCount (m .slots) ≡ true → addByKind m p k ≡ answered a → Says (m .slots) k a
+line-says m a p Blank h e = let z : m ≡ a = cc in subst (Says (m .slots) Blank) z (record { slots = refl; taken = h; readable = refl })
+line-says m a p (Slots n) h e =
+    let x = unless-answered (eqb (m .count) 0) _ _ e in
+    let y = unless-answered (slotCount n) _ _ (x .1) in
+    let z : withSlots m n ≡ a = cc (y .1) in
+    subst (Says (m .slots) (Slots n)) z (record { slots = refl; taken = y .0; readable = refl })
+line-says m a p Frame h e =
+    let x = adds m a p (namedGrid (m .slots) (p .borders) (p .flags) (p .mark)) refl e in
+    subst (Says (m .slots) Frame) (x .is) (record { slots = refl; taken = h; readable = refl })
+line-says m a p Unreadable h e = let z : _≡_ {A = ℕ} 0 1 = cc in absurd (omega arith)
+
+-- so do lines that make a stream, with n slots before them
+pub record Said (n : ℕ) (ls : List (List ℕ)) (s : List ℕ) : Type 0 where
+  pub slots : getD s 0 0 ≡ slotsSaid n ls
+  pub taken : slotCount (getD s 0 0) ≡ true
+  pub readable : every (λ l. isReadable (kindOf (readLine l))) ls ≡ true
+
+pub said : (i at : ℕ) (m : Making) (ls : List (List ℕ)) (s : List ℕ) → slotCount (m .slots) ≡ true → madeFrom i at m ls ≡ complete s → Said (m .slots) ls s
+unfolding madeFrom slotsSaid addLine every
+said i at m [] s h e = let z : streamOf m ≡ s = cc in subst (Said (m .slots) []) z (record { slots = refl; taken = h; readable = refl })
+said i at m (l ∷ ls) s h e =
+    let x = went-on i at m l ls s e in
+    let y = line-says m (x .0) (readLine l) (kindOf (readLine l)) h (x .1) in
+    let z = said (suc i) (at + length l + 1) (x .0) ls s (y .taken) (x .2) in
+    record { slots = z .slots ∙ ap (λ n. slotsSaid n ls) (y .slots); taken = z .taken; readable = rw (y .readable) (z .readable) }
 
 -- ---- the stream
 
@@ -195,9 +237,9 @@ pub record Carries (ss : List LineParts) (s : List ℕ) : Type 0 where
   pub is : s ≡ slots ∷ (first + slots) ∷ length ss ∷ bytes
 
 -- a stream that is made carries the frames of its lines
-pub carries : (w : Bool) (i n : ℕ) (ls : List (List ℕ)) (s : List ℕ) → madeFrom w i (withSlots unmade n) ls ≡ complete s → Carries (frameLines ls) s
-carries w i n ls s e =
-    let d = makes w i (withSlots unmade n) ls s (omega arith) e in
+pub carries : (i at n : ℕ) (ls : List (List ℕ)) (s : List ℕ) → madeFrom i at (withSlots noFrames n) ls ≡ complete s → Carries (frameLines ls) s
+carries i at n ls s e =
+    let d = makes i at (withSlots noFrames n) ls s (omega arith) e in
     let ss = frameLines ls in
     let bs = lineBits (d .slots) ss in
     let r = length-replicate {A = ℕ} mostBytes 0 in

@@ -3,8 +3,7 @@ use mathlib.Core.Path.{_≡_, _∙_}
 use mathlib.Core.Bool.{false}
 use mathlib.Core.List.{List}
 use Prim.Native.Nat.{ℕ, _≤_}
-use native.Mathlib.Omega.{arith}
-use lib.IntN.{ℤ, pos, negsuc, natAbs}
+use lib.IntN.{pos}
 use lib.ListN.{length, take}
 use mir.Syntax.{w32}
 use mir.Val.{SFits}
@@ -13,11 +12,7 @@ use Rattle.sbr_text.specs.declared.TextLine.{TextLine}
 use Rattle.sbr_text.specs.Parts.{LineParts, readLine}
 use Rattle.sbr_text.specs.Code.{textLineOf}
 use Rattle.sbr_text.proofs.Bounds.{line-bounded}
-
--- a number near 0 fits 32 bits
-near-fits : (z : ℤ) → natAbs z ≤ 1000 → SFits w32 z
-near-fits (pos n) h = record { sfits = omega arith }
-near-fits (negsuc n) h = record { sfits = omega arith }
+use Rattle.sbr_text.proofs.Signs.{near-fits}
 
 -- the places that are lent hold what the line says
 pub record Lent (t : TextLine) (s : LineParts) : Type 0 where

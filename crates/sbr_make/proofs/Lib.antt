@@ -12,3 +12,4 @@ pub mod Short
 pub mod Plain
 pub mod Printed
 pub mod Back
+pub mod Enough

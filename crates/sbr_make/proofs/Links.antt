@@ -1,11 +1,13 @@
 -- Frames that lines name, one behind the other, and what bytes that hold their bits are read as.
 use mathlib.Core.Path.{_≡_, sym, ap, _∙_}
 use mathlib.Core.Bool.{Bool}
-use mathlib.Core.List.{List, [], _∷_, _++_, map}
+use mathlib.Core.List.{List, [], _∷_, _++_, map, append-assoc}
 use Prim.Native.Nat.{ℕ, _+_, _-_, _*_, _≤_}
 use native.Mathlib.Omega.{arith}
 use lib.IntN.{ℤ, pos, natAbs}
 use lib.ListN.{length, getD, length-append, length-map, List·getD-map}
+use Rattle.bits.specs.Room.{Holds}
+use Rattle.bits.proofs.Held.{holds-past}
 use Rattle.sbr_grid.specs.Refusals.{answered, valueOr}
 use Rattle.sbr_grid.specs.Grid.{Grid, numEnv}
 use Rattle.sbr_grid.specs.Times.{Times}
@@ -19,7 +21,6 @@ use Rattle.sbr_named.specs.Shapes.{namedGrid}
 use Rattle.sbr_named.proofs.Chosen.{named-is-first}
 use Rattle.sbr_text.specs.Parts.{LineParts}
 use Rattle.sbr_make.specs.Back.{ReadLines}
-use Rattle.sbr_make.proofs.Holds.{Holds, holds-both, holds-from}
 
 -- the grid that is chosen for a line, whose frame begins at b
 pub record Link (n b : ℕ) (s : LineParts) : Type 0 where
@@ -90,7 +91,7 @@ front n b s ss x l p a h =
     let g = x .grid in
     let f = named-is-first n (s .borders) (s .flags) (s .mark) g (x .chosen) in
     let t = f .has .time in
-    let both = holds-both l p (gridBits g) (lineBits n ss) (rw (first-bits n s ss g (x .chosen)) at h) in
+    let bits = rw (first-bits n s ss g (x .chosen)) at h in
     let z = named-border (t .tE) (s .borders) 0 (f .has .same-borders) in
     let m : b ≡ getD (t .tE) 0 0 = ap natAbs (sym (x .begins) ∙ z) in
     record {
@@ -99,9 +100,9 @@ front n b s ss x l p a h =
       borders = f .has .same-borders;
       flags = f .has .same-flags;
       mark = f .has .same-mark;
-      read = record-read l p n (carrying (b + n) a) g t _ (holds-from l p (gridBits g) (both .0)) (f .read _) (f .has .derived) (ap (λ k. pos (k + n)) m);
+      read = record-read l p n (carrying (b + n) a) g t _ (bits .1 ∙ append-assoc (gridBits g) (lineBits n ss) (bits .0)) (f .read _) (f .has .derived) (ap (λ k. pos (k + n)) m);
       border = next-is n g t s (f .has .derived) (f .has .same-borders);
-      rest = both .1;
+      rest = holds-past l p (gridBits g) (lineBits n ss) bits;
     }
 
 -- bytes that hold the bits of lines are read as these lines
@@ -117,6 +118,7 @@ read-lines n b (s ∷ ss) l p a x h =
         borders = d .borders;
         flags = d .flags;
         mark = d .mark;
+        chosen = x .0 .chosen;
       },
       rw (d .border) (read-lines n (nextStart n s) ss l (p + length (gridBits g)) _ (x .1) (d .rest)),
     )

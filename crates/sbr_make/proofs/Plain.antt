@@ -1,12 +1,12 @@
 -- Texts with no line feed in them, and the lines of a text that a listing begins.
 use mathlib.Core.Path.{_≡_, refl, sym, ap, _∙_}
-use mathlib.Core.Bool.{Bool, true, false, and-eq-true-iff}
+use mathlib.Core.Bool.{Bool, true, false, not, false≢true, and-eq-true-iff}
 use mathlib.Core.List.{List, [], _∷_, _++_, map}
 use Prim.Native.Nat.{ℕ, suc, _+_, _/_, _%_}
 use native.Mathlib.Decide.{decLt}
 use native.Mathlib.Omega.{arith}
-use borrow.Author.Tests.{ne-eqb, ltb-true, lt-ltb}
-use lib.Dec.{ltb}
+use borrow.Author.Tests.{ne-eqb}
+use lib.Dec.{eqb}
 use lib.IntN.{ℤ, pos, negsuc}
 use lib.Seq.{append-snoc}
 use Rattle.sbr_grid.specs.declared.FrameClass.{FrameClass}
@@ -18,17 +18,20 @@ use Rattle.sbr_list.proofs.Lines.{decimal-one, decimal-two, decimal-three}
 use Rattle.sbr_text.proofs.Printed.{shown, shown-line}
 use Rattle.sbr_make.specs.Making.{linesOf}
 
--- every byte is above a line feed
+-- no byte is a line feed
 abbrev pub Plain : List ℕ → Type 0
-Plain l = every (ltb 10) l ≡ true
+Plain l = every (λ b. not (eqb b 10)) l ≡ true
+
+-- what is not so is otherwise
+pub is-false : (b : Bool) → not b ≡ true → b ≡ false
+is-false true h = absurd (false≢true h)
+is-false false h = refl
 
 -- such bytes before a line feed are the first line
 pub first-line : (l r : List ℕ) → Plain l → linesOf (l ++ (10 ∷ r)) ≡ l ∷ linesOf r
 unfolding linesOf every
 first-line [] r h = refl
-first-line (b ∷ l) r h =
-    let p = simp and-eq-true-iff at h in
-    rw (ne-eqb b 10 (λ e. omega (arith, ltb-true 10 b (p .0))), first-line l r (p .1))
+first-line (b ∷ l) r h = let p = simp and-eq-true-iff at h in rw (is-false (eqb b 10) (p .0), first-line l r (p .1))
 
 -- two such texts
 plain-both : (a b : List ℕ) → Plain a → Plain b → Plain (a ++ b)
@@ -47,8 +50,8 @@ plain-decimal n = elim (decLt n 10) [
   ]
 ]
   where
-    digit : (x : ℕ) → ltb 10 (48 + x) ≡ true
-    digit x = lt-ltb 10 (48 + x) (omega arith)
+    digit : (x : ℕ) → eqb (48 + x) 10 ≡ false
+    digit x = ne-eqb (48 + x) 10 (λ e. omega arith)
 
 -- one with its sign
 plain-signed : (z : ℤ) → Plain (signed z)

@@ -26,13 +26,13 @@ use Rattle.sbr_named.proofs.Signed.{border-at}
 use Rattle.sbr_text.specs.declared.Kind.{Kind}
 use Rattle.sbr_text.specs.declared.Kind.the-variants.{Blank, Slots, Frame, Unreadable}
 use Rattle.sbr_text.specs.Parts.{LineParts, kindOf}
-use Rattle.sbr_make.specs.Making.{Making, unmade, counting, addingChosen, addingKind, addLine}
+use Rattle.sbr_make.specs.Making.{Making, noFrames, setSlots, addChosen, addByKind, addLine}
 use Rattle.sbr_make.specs.Code.{InRoom}
 use Rattle.sbr_make.proofs.Named.{choice}
 
 -- before the first line there is room
-pub unmade-room : InRoom unmade
-unmade-room = record {
+pub none-room : InRoom noFrames
+none-room = record {
   count = omega arith;
   slots = omega arith;
   position = omega arith;
@@ -85,7 +85,7 @@ module _ (m : Making) (r : InRoom m) (g : Grid) (w : writable g ≡ true) (h : m
   }
 
 -- a slot count leaves room
-slots-room : (m : Making) (n : ℕ) (a : Making) → InRoom m → counting m n ≡ answered a → InRoom a
+slots-room : (m : Making) (n : ℕ) (a : Making) → InRoom m → setSlots m n ≡ answered a → InRoom a
 slots-room m n a r e =
     let u = unless-answered (eqb (m .count) 0) _ _ e in
     let v = unless-answered (slotCount n) _ _ (u .1) in
@@ -104,7 +104,7 @@ slots-room m n a r e =
 
 -- so does a frame
 frame-room : (m : Making) (zs : List ℤ) (res : List Bool) (mark : ℤ) (a : Making) (o : Outcome Grid) → InRoom m
-    → namedGrid (m .slots) zs res mark ≡ o → addingChosen m zs o ≡ answered a → InRoom a
+    → namedGrid (m .slots) zs res mark ≡ o → addChosen m zs o ≡ answered a → InRoom a
 frame-room m zs res mark a (answered g) r e h =
     let f = choice (m .slots) zs res mark g e in
     let u = unless-answered (eqb (m .count) 0 || isNumber (getD zs 0 (pos 0)) (m .next)) _ _ h in
@@ -117,7 +117,7 @@ frame-room m zs res mark a (answered g) r e h =
 frame-room m zs res mark a (refused x) r e h = let z : _≡_ {A = ℕ} 0 1 = cc in absurd (omega arith)
 
 -- so does what a line of any kind adds
-kind-room : (m : Making) (s : LineParts) (k : Kind) (a : Making) → InRoom m → addingKind m s k ≡ answered a → InRoom a
+kind-room : (m : Making) (s : LineParts) (k : Kind) (a : Making) → InRoom m → addByKind m s k ≡ answered a → InRoom a
 kind-room m s Blank a r e = let z : m ≡ a = cc in rw z at r
 kind-room m s (Slots n) a r e = slots-room m n a r e
 kind-room m s Frame a r e = frame-room m (s .borders) (s .flags) (s .mark) a (namedGrid (m .slots) (s .borders) (s .flags) (s .mark)) r refl e

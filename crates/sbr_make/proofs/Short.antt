@@ -3,12 +3,11 @@ use mathlib.Core.Path.{_≡_, refl, ap, _∙_}
 use mathlib.Core.List.{List}
 use Prim.Native.Nat.{ℕ, _≤_}
 use native.Mathlib.Omega.{arith}
-use lib.Dec.{leb}
 use lib.ListN.{length}
 use Rattle.sbr_grid.proofs.First.{first-length}
 use Rattle.sbr_make.specs.declared.Made.{Made}
 use Rattle.sbr_make.specs.declared.Made.the-variants.{Stream}
-use Rattle.sbr_make.specs.Making.{linesOf, TextOutcome, complete, stopped, mostText, textStream}
+use Rattle.sbr_make.specs.Making.{linesOf, TextOutcome, complete, stopped, textStream}
 use Rattle.sbr_make.specs.Code.{madeOf, bytesMade}
 use Rattle.sbr_make.proofs.Carries.{carries}
 
@@ -16,7 +15,7 @@ use Rattle.sbr_make.proofs.Carries.{carries}
 stream-short : (text s : List ℕ) → textStream text ≡ complete s → length s ≤ 832
 unfolding textStream
 stream-short text s e =
-    let d = carries (leb (length text) mostText) 0 16 (linesOf text) s e in
+    let d = carries 0 0 16 (linesOf text) s e in
     rw (d .is) (omega (arith, d .size))
 
 -- the next law, by what the text comes to

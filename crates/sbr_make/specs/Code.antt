@@ -11,7 +11,7 @@ use Rattle.sbr_make.specs.declared.Framed.{Framed}
 use Rattle.sbr_make.specs.declared.Framed.the-variants.{All, Stopped}
 use Rattle.sbr_make.specs.declared.Made.{Made}
 use Rattle.sbr_make.specs.declared.Made.the-variants.{Stream, Refused}
-use Rattle.sbr_make.specs.Making.{Making, TextOutcome, complete, stopped, streamOf}
+use Rattle.sbr_make.specs.Making.{Making, mostFrames, mostBytes, TextOutcome, complete, stopped, streamOf}
 
 -- the frames so far with their bytes, and the other way round
 abbrev pub makingOf : Frames → List ℕ → Making
@@ -41,14 +41,14 @@ addedOf f o = record { answer = answerOf o; frames = valueOr framesOf f o }
 abbrev pub bytesAdded : List ℕ → Outcome Making → List ℕ
 bytesAdded l o = valueOr (λ m. m .bytes) l o
 
--- the frames so far are such as lines make: the bits have room, and so has a further frame where there are fewer than 255; every byte behind them is 0
+-- the frames so far are such as lines make: the bits have room, and so has a further frame where one is taken; every byte behind them is 0
 pub record InRoom (m : Making) : Type 0 where
-  pub count : m .count ≤ 255
+  pub count : m .count ≤ mostFrames
   pub slots : m .slots ≤ 16
   pub position : m .position ≤ 26 * m .count
   pub begin : m .begin ≤ 19
   pub next : m .next ≤ 19
-  pub size : length (m .bytes) ≡ 829
+  pub size : length (m .bytes) ≡ mostBytes
   pub clear : (i : ℕ) → (m .position + 7) / 8 ≤ i → getD (m .bytes) i 0 ≡ 0
 
 -- a line of the text from a place on ends there: at the first line feed, or at the end
@@ -70,5 +70,5 @@ madeOf (complete l) = Stream (length l)
 madeOf (stopped i e) = Refused i e
 
 abbrev pub bytesMade : List ℕ → TextOutcome → List ℕ
-bytesMade l (complete s) = first 0 832 s
+bytesMade l (complete s) = first 0 (3 + mostBytes) s
 bytesMade l (stopped i e) = l

@@ -1,3 +1,4 @@
 pub mod Making
 pub mod Code
 pub mod Back
+pub mod Enough

@@ -1,5 +1,5 @@
--- A stream made of lines of text, in the input format of `gridlist`: slot count, first border, frame count, a byte each, then the frames' bits. Each line
--- names a frame; a blank one names none. Lines are counted from 1; the first that is refused is told by its number, and no stream is made then.
+-- A stream made of lines of text, in the input format of `gridlist`: slot count, previous border, frame count, a byte each, then the frames' bits. A line
+-- names a frame, says the slot count, or is blank. Lines are counted from 1; the first that is refused is told by its number, and no stream is made then.
 use mathlib.Core.Bool.{Bool, cond, _||_}
 use mathlib.Core.List.{List, [], _∷_}
 use Prim.Native.Nat.{ℕ, suc, _+_, _-_, _/_}
@@ -42,27 +42,30 @@ pub record Making : Type 0 where
   pub position : ℕ
   pub bytes : List ℕ
 
--- the bytes that 255 frames of at most 26 bits need
+-- the most frames, all that a byte counts, and the bytes that they need, with at most 26 bits each
+abbrev pub mostFrames : ℕ
+mostFrames = 255
+
 abbrev pub mostBytes : ℕ
 mostBytes = 829
 
 -- before the first line: 16 slots, where no line says otherwise, and no frame
-abbrev pub unmade : Making
-unmade = record { slots = 16; count = 0; begin = 0; next = 0; position = 0; bytes = replicate mostBytes 0 }
+abbrev pub noFrames : Making
+noFrames = record { slots = 16; count = 0; begin = 0; next = 0; position = 0; bytes = replicate mostBytes 0 }
 
 -- a slot count, before the first frame; 5 behind one, then 1
-abbrev pub counting : Making → ℕ → Outcome Making
-counting m n =
+abbrev pub setSlots : Making → ℕ → Outcome Making
+setSlots m n =
     unless (eqb (m .count) 0) Record
     (unless (slotCount n) SlotCount
     (answered (record { slots = n; count = m .count; begin = m .begin; next = m .next; position = m .position; bytes = m .bytes })))
 
 -- a frame with this first and this last border, for which g is chosen: 9 where it does not begin at the last border of the frame before less the slot
--- count, then 4 where there are 255 frames, which is all that a byte counts
-abbrev pub adding : Making → ℤ → ℤ → Grid → Outcome Making
-adding m first last g =
+-- count, then 4 where there are as many frames as are taken
+abbrev pub addFrame : Making → ℤ → ℤ → Grid → Outcome Making
+addFrame m first last g =
     unless (eqb (m .count) 0 || isNumber first (m .next)) Chain
-    (unless (ltb (m .count) 255) Room
+    (unless (ltb (m .count) mostFrames) Room
     (answered (record {
       slots = m .slots;
       count = m .count + 1;
@@ -72,23 +75,23 @@ adding m first last g =
       bytes = putBits (m .bytes) (m .position) (gridBits g);
     })))
 
-abbrev pub addingChosen : Making → List ℤ → Outcome Grid → Outcome Making
-addingChosen m bs (answered g) = adding m (getD bs 0 (pos 0)) (getD bs (length bs - 1) (pos 0)) g
-addingChosen m bs (refused e) = refused e
+abbrev pub addChosen : Making → List ℤ → Outcome Grid → Outcome Making
+addChosen m bs (answered g) = addFrame m (getD bs 0 (pos 0)) (getD bs (length bs - 1) (pos 0)) g
+addChosen m bs (refused e) = refused e
 
 -- a line that names a frame: its grid is the one for its borders, resolutions and mark
 abbrev pub nameFrame : Making → List ℤ → List Bool → ℤ → Outcome Making
-nameFrame m bs res mark = addingChosen m bs (namedGrid (m .slots) bs res mark)
+nameFrame m bs res mark = addChosen m bs (namedGrid (m .slots) bs res mark)
 
 -- what a line adds: 5 where it is no such line, then as its kind
-abbrev pub addingKind : Making → LineParts → Kind → Outcome Making
-addingKind m s Blank = answered m
-addingKind m s (Slots n) = counting m n
-addingKind m s Frame = nameFrame m (s .borders) (s .flags) (s .mark)
-addingKind m s Unreadable = refused Record
+abbrev pub addByKind : Making → LineParts → Kind → Outcome Making
+addByKind m s Blank = answered m
+addByKind m s (Slots n) = setSlots m n
+addByKind m s Frame = nameFrame m (s .borders) (s .flags) (s .mark)
+addByKind m s Unreadable = refused Record
 
 unfoldable pub addLine : Making → LineParts → Outcome Making
-addLine m s = addingKind m s (kindOf s)
+addLine m s = addByKind m s (kindOf s)
 
 -- ---- the stream
 
@@ -100,18 +103,21 @@ pub data TextOutcome : Type 0 where
 abbrev pub streamOf : Making → List ℕ
 streamOf m = m .slots ∷ (m .begin + m .slots) ∷ m .count ∷ take ((m .position + 7) / 8) (m .bytes)
 
-abbrev pub goesOn : ℕ → (Making → TextOutcome) → Outcome Making → TextOutcome
-goesOn i next (answered m) = next m
-goesOn i next (refused e) = stopped i e
-
--- the lines behind the first i; `whole` says that the text is no longer than what is taken, else it is refused by 4 in its last line
-unfoldable pub madeFrom : Bool → ℕ → Making → List (List ℕ) → TextOutcome
-madeFrom whole i m [] = cond whole (complete (streamOf m)) (stopped i Room)
-madeFrom whole i m (l ∷ ls) = goesOn (suc i) (λ a. madeFrom whole (suc i) a ls) (addLine m (readLine l))
+abbrev pub orStopped : ℕ → (Making → TextOutcome) → Outcome Making → TextOutcome
+orStopped i next (answered m) = next m
+orStopped i next (refused e) = stopped i e
 
 -- the longest text that is taken
 abbrev pub mostText : ℕ
 mostText = 65535
 
+-- the lines behind the first i; `at` is the place of the text where they begin. A line that ends past the longest text is refused by 4, whatever it says:
+-- it may have been cut
+unfoldable pub madeFrom : ℕ → ℕ → Making → List (List ℕ) → TextOutcome
+madeFrom i at m [] = complete (streamOf m)
+madeFrom i at m (l ∷ ls) =
+    orStopped (suc i) (λ a. madeFrom (suc i) (at + length l + 1) a ls)
+    (unless (leb (at + length l) mostText) Room (addLine m (readLine l)))
+
 unfoldable pub textStream : List ℕ → TextOutcome
-textStream text = madeFrom (leb (length text) mostText) 0 unmade (linesOf text)
+textStream text = madeFrom 0 0 noFrames (linesOf text)

@@ -16,13 +16,13 @@ ghost use Rattle.sbr_grid.specs.Grid.{viewOf};
 ghost use Rattle.sbr_writer.specs.Write.{every, writable};
 ghost use Rattle.sbr_named.specs.Code.{isBorder};
 ghost use Rattle.sbr_text.specs.Parts.{readLine};
-ghost use Rattle.sbr_make.specs.Making.{counting, adding, nameFrame, addLine, textStream};
+ghost use Rattle.sbr_make.specs.Making.{mostBytes, setSlots, addFrame, nameFrame, addLine, textStream};
 ghost use Rattle.sbr_make.specs.Code.{makingOf, addedOf, bytesAdded, InRoom, LineEnd, FramedAs, madeOf, bytesMade};
 
-// The bytes before a stream's bits: slot count, first border, frame count.
+// The bytes before a stream's bits: slot count, previous border, frame count.
 const HEAD: usize = 3;
 
-// The bytes of a stream: those three, and 26 bits for each of 255 frames.
+// The most bytes of a stream: those three, and 26 bits for each of 255 frames.
 pub const STREAM_SIZE: usize = 832;
 
 // The most frames, which a byte counts.
@@ -91,7 +91,7 @@ fn line_end(text: &[u8], from: usize) -> usize
 
 // A line that says the slot count.
 fn set_slots(frames: Frames, num_time_slots: usize) -> Added
-    ensures { λ r. ⌜ ((l : List ℕ) → r ≡ addedOf frames (counting (makingOf frames l) «num_time_slots»)) ⌝ }
+    ensures { λ r. ⌜ ((l : List ℕ) → r ≡ addedOf frames (setSlots (makingOf frames l) «num_time_slots»)) ⌝ }
 {
     if frames.count != 0 {
         return refusal(Refusal::Record, frames);
@@ -130,7 +130,7 @@ fn begin_of(frames: Frames, first: u32) -> u32
 }
 
 // a - b, or 0 where b is the larger.
-fn over(a: u32, b: u32) -> u32
+fn less(a: u32, b: u32) -> u32
     ensures { λ r. ⌜ r ≡ a - b ⌝ }
 {
     if b < a { a - b } else { 0 }
@@ -140,7 +140,7 @@ fn over(a: u32, b: u32) -> u32
 fn add_frame(frames: Frames, first: u32, last: u32, grid: SbrGrid, bytes: &mut [u8]) -> Added
     requires { ⌜ InRoom (makingOf frames (now bytes)) × (writable (viewOf grid) ≡ true) ⌝ }
     ensures { λ r. ⌜ Leaves
-        (adding (makingOf frames (now (bytes .entry))) (pos first) (pos last) (viewOf grid))
+        (addFrame (makingOf frames (now (bytes .entry))) (pos first) (pos last) (viewOf grid))
         (addedOf frames) r
         (bytesAdded (now (bytes .entry))) (now (bytes .exit)) ⌝ }
 {
@@ -159,7 +159,7 @@ fn add_frame(frames: Frames, first: u32, last: u32, grid: SbrGrid, bytes: &mut [
                 num_time_slots: frames.num_time_slots,
                 count: frames.count + 1,
                 begin: begin_of(frames, first),
-                next: over(last, frames.num_time_slots as u32),
+                next: less(last, frames.num_time_slots as u32),
                 position,
             },
         },
@@ -231,7 +231,7 @@ fn add_line(frames: Frames, line: &[u8], bytes: &mut [u8]) -> Added
 
 // The frames of all lines, their bits in bytes that were 0.
 fn add_lines(text: &[u8], bytes: &mut [u8]) -> Framed
-    requires { ⌜ now bytes ≡ replicate 829 0 ⌝ }
+    requires { ⌜ now bytes ≡ replicate mostBytes 0 ⌝ }
     ensures { λ r. ⌜ FramedAs (textStream (now (text .entry))) r (now (bytes .exit)) ⌝ }
 {
     let mut frames = Frames {
@@ -246,6 +246,9 @@ fn add_lines(text: &[u8], bytes: &mut [u8]) -> Framed
     while at <= text.len() {
         line += 1;
         let end = line_end(text, at);
+        if MAX_TEXT < end {
+            return Framed::Stopped(line, Refusal::Room);
+        }
         let added = add_line(frames, &text[at..end], bytes);
         let answer = added.answer;
         if let Answer::Refused(why) = answer {
@@ -254,9 +257,6 @@ fn add_lines(text: &[u8], bytes: &mut [u8]) -> Framed
         let more = added.frames;
         frames = more;
         at = end + 1;
-    }
-    if MAX_TEXT < text.len() {
-        return Framed::Stopped(line, Refusal::Room);
     }
     Framed::All(frames)
 }

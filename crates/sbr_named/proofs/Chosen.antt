@@ -1,7 +1,7 @@
 -- The claims of specs/Named.antt: an answer is the first record that has what is named, 10 says that none has it, and clearing changes nothing.
 use mathlib.Core.Path.{_≡_, refl, sym, ap, _∙_}
 use mathlib.Core.Bool.{Bool, true, false, false≢true}
-use mathlib.Core.List.{List, [], _∷_, map, map-map, map-id}
+use mathlib.Core.List.{List, [], _∷_, map}
 use mathlib.Core.Option.{Option, none, some}
 use mathlib.Core.Logic.{_⊎_, inl, inr, _↔_}
 use Prim.Native.Nat.{ℕ, suc, _+_, _-_, _≤_, _<_}
@@ -27,6 +27,7 @@ use Rattle.sbr_parse.proofs.Inverse.{reads-back}
 use Rattle.sbr_named.specs.Shapes.{leading, shaped, pointerFor, candidate, hasBorders, firstFrom, recordAt, named, fromZero, orNoGrid, namedGrid}
 use Rattle.sbr_named.specs.Named.{HasNamed, key, Before, NamedIsFirst, NoGridExactly, ClearingKeeps}
 use Rattle.sbr_named.proofs.Passed.{fit-fields, fit-class}
+use Rattle.sbr_named.proofs.Signed.{pos-back}
 use Rattle.sbr_named.proofs.Alike.{clear-bits, clear-fits, clear-time}
 use Rattle.sbr_named.proofs.Shapes.{shapeOf, shape-class, shape-few, shaped-is, shaped-clear}
 use Rattle.sbr_named.proofs.Pointers.{bit-count, class-rise, bits-rise}
@@ -174,7 +175,7 @@ module _ (n : ℕ) (zs : List ℤ) (res : List Bool) (mark : ℤ) where
   pub of-signed : (g : Grid) → HasNamed n zs res mark g → (every fromZero zs ≡ true) × HasBorders n (map natAbs zs) res mark g
   of-signed g h =
       let t = h .time in
-      let b : t .tE ≡ map natAbs zs = sym (map-map natAbs pos (t .tE) ∙ map-id (t .tE)) ∙ ap (map natAbs) (h .same-borders) in (
+      let b : t .tE ≡ map natAbs zs = sym (pos-back (t .tE)) ∙ ap (map natAbs) (h .same-borders) in (
         rw (← h .same-borders) (from-zero (t .tE)),
         record {
           fits = h .fits;

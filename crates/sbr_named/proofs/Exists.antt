@@ -13,14 +13,14 @@ use lib.ListN.{length}
 use Rattle.sbr_grid.specs.Refusals.{Outcome, answered, refused}
 use Rattle.sbr_grid.specs.Grid.{byClass, classOf, Grid, numEnv}
 use Rattle.sbr_grid.specs.Times.{Times}
-use Rattle.sbr_time_grid.specs.TimeGrid.{tQ, lA, timeGrid}
+use Rattle.sbr_time_grid.specs.TimeGrid.{markOf, tQ, lA, timeGrid}
 use Rattle.sbr_time_grid.proofs.Laws.{each-class}
 use Rattle.sbr_writer.specs.Write.{writable}
 use Rattle.sbr_writer.proofs.Writable.{both}
 use Rattle.sbr_named.specs.Shapes.{shaped, pointerFor, candidate, sameList, sameMark, hasTimes, hasBorders}
 use Rattle.sbr_named.proofs.Passed.{fit-fields, timed}
 use Rattle.sbr_named.proofs.Alike.{repointed, repointed-fits, repointed-time}
-use Rattle.sbr_named.proofs.Pointers.{markOf, Marked, marked, no-mark}
+use Rattle.sbr_named.proofs.Pointers.{Marked, marked, no-mark}
 use Rattle.sbr_named.proofs.Shapes.{shapeOf, shape-class, shaped-is, shaped-shape, repointed-shape}
 
 -- a record is writable, and its time grid has these borders and this mark, with these resolutions

@@ -2,29 +2,23 @@
 use mathlib.Core.Path.{_≡_, refl, ap}
 use mathlib.Core.Bool.{Bool, true}
 use mathlib.Core.List.{List, [], _∷_, map}
-use Prim.Native.Nat.{ℕ, zero, suc, _+_, _-_, _≤_, _<_}
+use Prim.Native.Nat.{ℕ, suc, _+_, _≤_, _<_}
 use native.Mathlib.Omega.{arith}
 use borrow.Author.Tests.{le-leb, le-ltb}
 use lib.IntN.{ℤ, pos}
 use lib.ListN.{length, getD, length-map}
 use Rattle.sbr_grid.specs.Grid.{Grid, numEnv}
 use Rattle.sbr_grid.proofs.Slots.{slots-few}
-use Rattle.sbr_time_grid.specs.TimeGrid.{tE, rises}
+use Rattle.sbr_time_grid.specs.TimeGrid.{tE}
+use Rattle.sbr_time_grid.proofs.Rises.{rises-gap}
 use Rattle.sbr_time_grid.proofs.Ends.{time-ends}
 use Rattle.sbr_writer.specs.Write.{every}
 use Rattle.sbr_named.specs.Named.{HasNamed, CountsNamed}
 use Rattle.sbr_named.specs.Code.{isBorder, isMark}
 use Rattle.sbr_named.proofs.Passed.{timed}
-use Rattle.sbr_named.proofs.Shapes.{rises-at, listed}
+use Rattle.sbr_named.proofs.Shapes.{listed}
 use Rattle.sbr_named.proofs.Exists.{mark-of, mark-told}
 use Rattle.sbr_named.proofs.Chosen.{of-signed}
-
--- a border of rising ones is at most a later one
-rises-le : (f : ℕ → ℕ) (k : ℕ) → rises f k ≡ true → (l d : ℕ) → l + d ≤ k → f l ≤ f (l + d)
-rises-le f k e l zero h = let z : l + 0 ≡ l = omega arith in rw z (omega arith)
-rises-le f k e l (suc d) h =
-    let z : l + suc d ≡ suc (l + d) = omega arith in
-    rw z (omega (arith, rises-le f k e l d (omega arith), rises-at f k (l + d) e (omega arith)))
 
 -- borders of at most 19 each
 all-borders : (bs : List ℕ) → ((i : ℕ) → i < length bs → getD bs i 0 ≤ 19) → every isBorder (map pos bs) ≡ true
@@ -49,11 +43,10 @@ limits n zs res mark g h =
     let s = of-signed n zs res mark g h .1 in
     let l : numEnv g ≡ length res = ap length (h .same-flags) in
     let low : (i : ℕ) → i < length (t .tE) → getD (t .tE) i 0 ≤ 19 = λ i a.
-    let z : i + (numEnv g - i) ≡ numEnv g = omega (arith, e .count) in
     let at : (j : ℕ) → j ≤ numEnv g → getD (t .tE) j 0 ≡ tE n g j =
     λ j b. rw (p .value) (listed (tE n g) (numEnv g + 1) j (omega arith))
     in
-    omega (arith, at i (omega arith), at (numEnv g) (omega arith), rw z at (rises-le (tE n g) (numEnv g) (p .up) i (numEnv g - i) (omega arith)), e .end, slots-few n (p .slots))
+    omega (arith, at i (omega arith), at (numEnv g) (omega arith), rises-gap (tE n g) (numEnv g) i (numEnv g) (p .up) (omega (arith, e .count)) (omega arith), e .end, slots-few n (p .slots))
     in
     record {
       count = omega (arith, e .count, length-map (t .tE) pos, ap length (h .same-borders));

@@ -4,14 +4,14 @@ use mathlib.Core.Bool.{true}
 use Prim.Native.Nat.{ℕ, zero, suc, _+_, _-_, _*_, _≤_}
 use native.Mathlib.Omega.{arith}
 use borrow.Author.Tests.{le-leb, le-ltb}
-use lib.IntN.{ℤ, pos, negsuc, _-ℤ_}
+use lib.IntN.{ℤ, pos, negsuc}
 use lib.ListN.{length, length-append, length-reverse}
 use Rattle.bits.proofs.Numbers.{length-bitsOf}
 use Rattle.sbr_grid.specs.declared.FrameClass.{FrameClass}
 use Rattle.sbr_grid.specs.declared.FrameClass.the-variants.{FixFix, FixVar, VarFix, VarVar}
 use Rattle.sbr_grid.specs.Grid.{byClass, classCode, classOf, ptrBits, Grid, numEnv}
 use Rattle.sbr_grid.proofs.Laws.{class-of-code}
-use Rattle.sbr_time_grid.specs.TimeGrid.{byPointer}
+use Rattle.sbr_time_grid.specs.TimeGrid.{markOf}
 use Rattle.sbr_time_grid.proofs.Marks.{pointer-some}
 use Rattle.sbr_writer.specs.Syntax.{bodyBits, gridBits}
 use Rattle.sbr_writer.specs.Write.{classFits, writable}
@@ -22,13 +22,6 @@ use Rattle.sbr_named.specs.Code.{isMark}
 use Rattle.sbr_named.proofs.Passed.{fit-class}
 
 -- ---- the pointer of a mark
-
--- the mark of a pointer in a class, with l envelopes
-abbrev pub markOf : FrameClass → ℕ → ℕ → ℤ
-markOf c l p =
-    let none = negsuc 0 in
-    let at = pos (l + 1) -ℤ pos p in
-    byClass c none (byPointer p none at at) (byPointer p none none (pos (p - 1))) (byPointer p none at at)
 
 -- the pointer for the mark of p is p or less and has that mark, which is one that a frame can have
 pub record Marked (c : FrameClass) (l p q : ℕ) : Type 0 where

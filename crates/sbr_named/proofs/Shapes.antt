@@ -3,11 +3,8 @@ use mathlib.Core.Path.{_≡_, refl, sym, ap, _∙_}
 use mathlib.Core.Bool.{Bool, true}
 use mathlib.Core.List.{List}
 use Prim.Native.Nat.{ℕ, zero, suc, _+_, _-_, _≤_, _<_}
-use native.Mathlib.Decide.{decLe}
 use native.Mathlib.Nat.{zero-add}
 use native.Mathlib.Omega.{arith}
-use borrow.Author.Tests.{ltb-true}
-use lib.Dec.{ltb}
 use lib.ListN.{length, getD}
 use lib.Seq.{ext-getD}
 use Rattle.sbr_grid.specs.declared.FrameClass.{FrameClass}
@@ -17,9 +14,10 @@ use Rattle.sbr_grid.specs.Grid.{byClass, classOf, Grid, numEnv}
 use Rattle.sbr_grid.specs.Times.{Times}
 use Rattle.sbr_time_grid.specs.TimeGrid.{slots, absBordLead, absBordTrail, nRelLead, nRelTrail, relBordLead, relBordTrail, slotSum, listFrom, tE, rises, timeGrid}
 use Rattle.sbr_time_grid.proofs.Laws.{Counts}
+use Rattle.sbr_time_grid.proofs.Rises.{rises-gap}
 use Rattle.sbr_time_grid.proofs.Borders.{sum-none, sum-more, border-lead, border-trail, length-listFrom, getD-listFrom}
 use Rattle.sbr_writer.specs.Write.{classFits, writable}
-use Rattle.sbr_writer.proofs.Writable.{both, one-told, two-told}
+use Rattle.sbr_writer.proofs.Writable.{one-told, two-told}
 use Rattle.sbr_parse.specs.Syntax.{received}
 use Rattle.sbr_parse.specs.Inverse.{cleared}
 use Rattle.sbr_named.specs.Shapes.{leading, trailing, shaped}
@@ -63,16 +61,6 @@ repointed-shape q g VarFix = refl
 repointed-shape q g VarVar = refl
 
 -- ---- the borders of a record, read back
-
--- a border of rising ones is below the next
-pub rises-at : (f : ℕ → ℕ) (k l : ℕ) → rises f k ≡ true → l < k → f l < f (suc l)
-unfolding rises
-rises-at f zero l e h = absurd (omega arith)
-rises-at f (suc k) l e h = let t = both (rises f k) (ltb (f k) (f (suc k))) e in go (t .1) (rises-at f k l (t .0)) (decLe (suc l) k)
-  where
-    go : ltb (f k) (f (suc k)) ≡ true → (l < k → f l < f (suc l)) → Dec (suc l ≤ k) → f l < f (suc l)
-    go u before (yes a) = before a
-    go u before (no a) = let q : l ≡ k = omega arith in rw q (ltb-true (f k) (f (suc k)) u)
 
 -- the number at a place of a list
 pub listed : (f : ℕ → ℕ) (k i : ℕ) → i < k → getD (listFrom f 0 k) i 0 ≡ f i
@@ -128,8 +116,7 @@ module _ (n : ℕ) (g : Grid) (c : Counts g) where
       (λ i a.
       let b : i < nRelTrail g = rw length-listFrom at a in
       let m = numEnv g - (i + 1) in
-      let s : suc (m - 1) ≡ m = omega arith in
-      let r : 0 < tE n g m = omega (arith, rw s at (rises-at (tE n g) (numEnv g) (m - 1) up (omega arith))) in
+      let r : 0 < tE n g m = omega (arith, rises-gap (tE n g) (numEnv g) 0 m up (omega arith) (omega arith)) in
       listed _ (nRelTrail g) i b
       ∙ omega (arith, at m (omega arith), back-is (i + 1) (omega arith), back-is i (omega arith), sum-more (relBordTrail g) i))
 

@@ -1,7 +1,7 @@
 -- Borders and marks as the program has them: signed numbers of 32 bits.
 use mathlib.Core.Path.{_≡_, refl, sym, _∙_}
 use mathlib.Core.Bool.{Bool, true, false, not, false≢true}
-use mathlib.Core.List.{List, [], _∷_, map}
+use mathlib.Core.List.{List, [], _∷_, map, map-map, map-id}
 use Prim.Native.Nat.{ℕ, zero, suc, _+_, _-_, _^_, _≤_}
 use native.Mathlib.Omega.{arith}
 use native.Mathlib.Decide.{ℕ-discrete}
@@ -45,6 +45,10 @@ border-at zs i e = border-whole (getD zs i (pos 0)) (every-at isBorder (pos 0) z
 -- it is at most 19
 pub border-low : (zs : List ℤ) (i : ℕ) → every isBorder zs ≡ true → getD (map natAbs zs) i 0 ≤ 19
 border-low zs i e = rw (List·getD-map natAbs zs i (pos 0)) (border-at zs i e .low)
+
+-- whole numbers with a sign, without it
+pub pos-back : (ns : List ℕ) → map natAbs (map pos ns) ≡ ns
+pos-back ns = map-map natAbs pos ns ∙ map-id ns
 
 -- no border is below 0
 pub border-from-zero : (zs : List ℤ) → every isBorder zs ≡ true → every fromZero zs ≡ true

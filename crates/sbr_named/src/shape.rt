@@ -15,7 +15,7 @@ ghost use Rattle.sbr_named.specs.Code.{isMark, FramePlaces};
 pub const SHAPES: u32 = 4 + SbrGrid::MAX_SIDE_REL as u32;
 
 // a - b as a byte, or 0 where b is the larger.
-fn over(a: u32, b: u32) -> u8
+fn less(a: u32, b: u32) -> u8
     requires { ⌜ a ≤ 19 ⌝ }
     ensures { λ r. ⌜ r ≡ a - b ⌝ }
 {
@@ -27,7 +27,7 @@ fn stored_length(a: u32, b: u32) -> u8
     requires { ⌜ (a ≤ 19) × (b ≤ 19) ⌝ }
     ensures { λ r. ⌜ r ≡ storedLength a b ⌝ }
 {
-    over(b, a + 2) / 2
+    less(b, a + 2) / 2
 }
 
 // The stored length at place i of `count` leading ones; 0 behind them.
@@ -89,7 +89,7 @@ fn lead_count(class: FrameClass, le: usize, k: u32) -> usize
         FrameClass::FixFix => 0,
         FrameClass::FixVar => 0,
         FrameClass::VarFix => le - 1,
-        FrameClass::VarVar => over(k, 3) as usize,
+        FrameClass::VarVar => less(k, 3) as usize,
     }
 }
 
@@ -102,7 +102,7 @@ fn trail_count(class: FrameClass, le: usize, lead: usize) -> usize
         FrameClass::FixFix => 0,
         FrameClass::FixVar => le - 1,
         FrameClass::VarFix => 0,
-        FrameClass::VarVar => over(le as u32 - 1, lead as u32) as usize,
+        FrameClass::VarVar => less(le as u32 - 1, lead as u32) as usize,
     }
 }
 
@@ -126,9 +126,9 @@ fn last_byte(class: FrameClass, b: u32, n: u32) -> u8
 {
     match class {
         FrameClass::FixFix => 0,
-        FrameClass::FixVar => over(b, n),
+        FrameClass::FixVar => less(b, n),
         FrameClass::VarFix => 0,
-        FrameClass::VarVar => over(b, n),
+        FrameClass::VarVar => less(b, n),
     }
 }
 
@@ -143,9 +143,9 @@ fn pointer_for(class: FrameClass, le: usize, l_a: i32) -> u8
     let m = l_a as u32;
     match class {
         FrameClass::FixFix => 0,
-        FrameClass::FixVar => over(le as u32 + 1, m),
+        FrameClass::FixVar => less(le as u32 + 1, m),
         FrameClass::VarFix => (m + 1) as u8,
-        FrameClass::VarVar => over(le as u32 + 1, m),
+        FrameClass::VarVar => less(le as u32 + 1, m),
     }
 }
 

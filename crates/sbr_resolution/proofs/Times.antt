@@ -17,7 +17,7 @@ use Rattle.sbr_time_grid.proofs.Borders.{at-border}
 use Rattle.sbr_grid.proofs.Slots.{slots-few}
 use Rattle.sbr_time_grid.proofs.Ends.{time-passes, time-ends}
 use Rattle.sbr_bands.specs.Tables.{entry}
-use Rattle.sbr_bands.proofs.TableLaws.{rises-step}
+use Rattle.sbr_time_grid.proofs.Rises.{rises-step}
 use Rattle.sbr_resolution.proofs.Borders.{borders-le}
 
 -- k envelopes between the borders ts of a time grid t

@@ -3,42 +3,19 @@ use mathlib.Core.Path.{_≡_, refl, sym, ap, _∙_, subst}
 use mathlib.Core.Bool.{Bool, false}
 use mathlib.Core.List.{List, [], _∷_, _++_, map, append-assoc}
 use Prim.Native.Nat.{ℕ, zero, suc, _+_, _-_, _≤_, _<_}
-use native.Mathlib.Nat.{add-zero, add-suc, suc-add}
 use native.Mathlib.Omega.{arith}
 use lib.ListN.{length, take, drop, length-append}
-use lib.Seq.{drop-append-seam}
-use Rattle.bits.specs.Bits.{bitsAt}
-use Rattle.bits.specs.Room.{endOf}
+use Rattle.bits.specs.Room.{Holds}
+use Rattle.bits.proofs.Held.{holds-past}
 use Rattle.sbr_grid.specs.declared.Refusal.{Refusal}
 use Rattle.sbr_grid.specs.Refusals.{Outcome, answered, refused}
 use Rattle.sbr_writer.specs.Syntax.{gridBits}
 use Rattle.sbr_reader.specs.Read.{Accepted, marksEnd, readGrid, carrying}
 use Rattle.sbr_run.specs.Run.{Sent, Terms, State, Frame, frameOf, framesFrom, stream}
-use Rattle.sbr_run.specs.Readings.{Reading, reading, Receiver, tunedAt, heard, listened, noted, read, frameHeard, inTerms, OwnReading, Readings, Holds}
+use Rattle.sbr_run.specs.Readings.{Reading, reading, Receiver, tunedAt, heard, listened, noted, read, frameHeard, inTerms, OwnReading, Readings}
 use Rattle.sbr_run.specs.Term3.{ReadBack}
 use Rattle.sbr_run.proofs.OneFrame.{Good, got, read-ok}
 use Rattle.sbr_run.proofs.Transmit.{GoodChain}
-
--- ---- bits further on
-
-drop-bitsAt : (l : List ℕ) (k p n : ℕ) → drop k (bitsAt l p n) ≡ bitsAt l (p + k) (n - k)
-unfolding bitsAt
-drop-bitsAt l zero p n = let z : n - 0 ≡ n = omega arith in rw (add-zero p, z) refl
-drop-bitsAt l (suc k) p zero = let z : 0 - suc k ≡ 0 = omega arith in rw z refl
-drop-bitsAt l (suc k) p (suc n) =
-    let z : suc n - suc k ≡ n - k = omega arith in
-    drop-bitsAt l k (suc p) n ∙ (λ i. bitsAt l ((suc-add p k ∙ sym (add-suc p k)) i) (sym z i))
-
--- past the first bits that are held, the others are
-pub holds-past : (l : List ℕ) (p : ℕ) (xs ys : List Bool) → Holds l p (xs ++ ys) → Holds l (p + length xs) ys
-holds-past l p xs ys h =
-    let e = endOf (length l) in (
-      h .0,
-      (let z : e - (p + length xs) ≡ e - p - length xs = omega arith in ap (bitsAt l (p + length xs)) z)
-          ∙ sym (drop-bitsAt l (length xs) p (e - p))
-          ∙ ap (drop (length xs)) (h .1 ∙ append-assoc xs ys (h .0))
-          ∙ drop-append-seam xs (ys ++ h .0),
-    )
 
 -- the frame at the front is read
 pub front : (n b : ℕ) (a : Bool) (q : ℕ) (bytes : List ℕ) (f : Sent) (fs : List Sent) → Good n b f → Holds bytes q (stream (f ∷ fs))

@@ -1,15 +1,15 @@
 -- A list of turns: what it leaves.
 use mathlib.Core.Path.{_≡_, refl, sym, ap, _∙_, subst}
 use mathlib.Core.Bool.{Bool, false}
-use mathlib.Core.List.{List, [], _∷_, _++_, map}
-use Prim.Native.Nat.{ℕ, _+_, _-_, _*_, _^_, _≤_, _<_, min}
+use mathlib.Core.List.{List, [], _∷_, map}
+use Prim.Native.Nat.{ℕ, _+_, _-_, _*_, _^_, _≤_, _<_}
 use native.Mathlib.Nat.{add-zero}
 use native.Mathlib.Omega.{arith}
 use lib.IntN.{ℤ}
 use lib.ListN.{length, replicate, length-append}
-use Rattle.bits.specs.Bits.{bitsAt, putBits}
-use Rattle.bits.specs.Room.{endOf, bitsFrom}
-use Rattle.bits.proofs.Stream.{bitsAt-add}
+use Rattle.bits.specs.Bits.{putBits}
+use Rattle.bits.specs.Room.{endOf, bitsFrom, Holds}
+use Rattle.bits.proofs.Held.{holds-read}
 use Rattle.bits.proofs.Put.{put-append}
 use Rattle.bits.proofs.After.{length-putBits, put-leaves}
 use Rattle.bits.proofs.Room.{room}
@@ -19,7 +19,6 @@ use Rattle.sbr_writer.proofs.Puts.{puts, some-bits}
 use Rattle.sbr_reader.specs.Read.{marksEnd}
 use Rattle.sbr_encoder.specs.Election.{Elected}
 use Rattle.sbr_run.specs.Run.{Turn, Sent, Turned, turn, Terms, Choosing, State, lastBorder, moved, after, counted, sent, OwnTurn, Turns, Run, Frame, framesFrom, stream, Chain}
-use Rattle.sbr_run.specs.Readings.{Holds}
 use Rattle.sbr_run.specs.Term3.{Transmitted, SoundChoice}
 use Rattle.sbr_run.proofs.OneFrame.{calls, Good, InReach, good-frame}
 
@@ -120,14 +119,7 @@ transmit By sound r s (t ∷ ts) i h =
 -- bytes with bits put into them hold these
 held : (l : List ℕ) (p : ℕ) (bs : List Bool) → 0 < length bs → p + length bs ≤ 8 * length l → p + length bs < 2 ^ 64 → Holds (putBits l p bs) p bs
 unfolding endOf
-held l p bs some a b =
-    let m = putBits l p bs in
-    let n = length bs in
-    let len = length-putBits l p bs in
-    let e = min (8 * length m) (2 ^ 64 - 1) in (
-      bitsAt m (p + n) (e - p - n),
-      ap (bitsAt m p) (omega (arith, len)) ∙ bitsAt-add m p n (e - p - n) ∙ ap (λ (x : List Bool). x ++ bitsAt m (p + n) (e - p - n)) (put-leaves l p bs some a .bits),
-    )
+held l p bs some a b = holds-read (putBits l p bs) p bs (omega (arith, length-putBits l p bs)) (put-leaves l p bs some a .bits)
 
 -- frames have bits
 stream-bits : (fs : List Sent) → 0 < length fs → 0 < length (stream fs)

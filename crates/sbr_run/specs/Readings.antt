@@ -1,9 +1,8 @@
 -- A receiver's readings: docs/ORDER.md, T3. The call is that of the public contract: `readGrid`.
 use mathlib.Core.Path.{_≡_}
 use mathlib.Core.Bool.{Bool, false}
-use mathlib.Core.List.{List, [], _∷_, _++_, map}
+use mathlib.Core.List.{List, [], _∷_, map}
 use Prim.Native.Nat.{ℕ}
-use Rattle.bits.specs.Room.{bitsFrom}
 use Rattle.sbr_grid.specs.Refusals.{Outcome, answered, refused}
 use Rattle.sbr_grid.specs.Grid.{numEnv}
 use Rattle.sbr_grid.specs.Times.{isNumber}
@@ -65,10 +64,6 @@ OwnReading n bytes c r (refused e) = Unit {0}
 abbrev pub Readings : ℕ → List ℕ → Receiver → List Reading → Type 0
 Readings n bytes c [] = Unit {0}
 Readings n bytes c (r ∷ rs) = OwnReading n bytes c r (reading r) × Readings n bytes (heard c (reading r)) rs
-
--- bytes that hold the bits str from position q on, whatever follows
-abbrev pub Holds : List ℕ → ℕ → List Bool → Type 0
-Holds bytes q str = (rest : List Bool) × (bitsFrom bytes q ≡ str ++ rest)
 
 -- ---- the flag over a list of readings: the statement, proved in proofs/Flags.antt
 

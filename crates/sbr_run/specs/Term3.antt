@@ -7,6 +7,7 @@ use Prim.Native.Nat.{ℕ, _+_, _-_, _≤_, _<_}
 use lib.IntN.{ℤ}
 use lib.ListN.{length, take, getD, replicate}
 use lib.Ieee.{Float}
+use Rattle.bits.specs.Room.{Holds}
 use Rattle.bits.specs.Put.{BitsPut}
 use Rattle.sbr_grid.specs.declared.Refusal.{Refusal}
 use Rattle.sbr_grid.specs.declared.Refusal.the-variants.{Room}
@@ -20,7 +21,7 @@ use Rattle.sbr_encoder.specs.Election.{Elected}
 use Rattle.sbr_encoder.specs.Electable.{Electable, NotAtEnd}
 use Rattle.sbr_envelopes.specs.Envelopes.{sumOf, rowLengths, energies}
 use Rattle.sbr_run.specs.Run.{Turn, Sent, Terms, Choosing, Elects, State, after, sent, Run, Frame, framesSent, stream, Chain}
-use Rattle.sbr_run.specs.Readings.{Reading, reading, tunedAt, listened, read, frameHeard, inTerms, Readings, Holds}
+use Rattle.sbr_run.specs.Readings.{Reading, reading, tunedAt, listened, read, frameHeard, inTerms, Readings}
 
 -- ---- the transmitter
 

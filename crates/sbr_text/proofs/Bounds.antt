@@ -8,7 +8,7 @@ use borrow.Author.Tests.{lt-ltb, le-ltb}
 use lib.Dec.{eqb, ltb}
 use lib.IntN.{ℤ, pos, natAbs}
 use lib.ListN.{length, getD, length-append}
-use Rattle.sbr_text.specs.Parts.{LineParts, pushed, numbered, signedOf, withNumber, closed, isDigit, isBlank, isFlag, isClassLetter, withByte, withBytes, noParts, readLine}
+use Rattle.sbr_text.specs.Parts.{LineParts, pushed, numbered, signedOf, withNumber, closed, isDigit, isBlank, isFlag, isClassLetter, readByte, readBytes, noParts, readLine}
 
 -- no number of a list is more than 1000, with or without its sign
 abbrev pub Near : List ℤ → Type 0
@@ -46,7 +46,7 @@ more-near (y ∷ xs) x h k zero = h 0
 more-near (y ∷ xs) x h k (suc i) = more-near xs x (λ j. h (suc j)) k i
 
 -- a number is as near with its sign
-signed-near : (m d : Bool) (v : ℕ) → v ≤ 1000 → natAbs (signedOf (numbered m d v)) ≤ 1000
+pub signed-near : (m d : Bool) (v : ℕ) → v ≤ 1000 → natAbs (signedOf (numbered m d v)) ≤ 1000
 signed-near false d v h = h
 signed-near true d zero h = omega arith
 signed-near true d (suc v) h = h
@@ -73,8 +73,8 @@ bounded-closed s b =
     (revalued (omega arith) b)
 
 -- so does any byte
-pub bounded-byte : (s : LineParts) (b : ℕ) → Bounded s → Bounded (withByte s b)
-unfolding withByte
+pub bounded-byte : (s : LineParts) (b : ℕ) → Bounded s → Bounded (readByte s b)
+unfolding readByte
 bounded-byte s b h =
     either Bounded (isDigit b) (revalued (omega arith) h)
     (either Bounded (isBlank b) (bounded-closed s h)
@@ -90,12 +90,12 @@ pub bounded-none : Bounded noParts
 bounded-none = record { value = omega arith; borders = omega arith; near = λ i. omega arith; marked = omega arith; flags = omega arith }
 
 -- so is one after any bytes
-bounded-bytes : (s : LineParts) (l : List ℕ) → Bounded s → Bounded (withBytes s l)
-unfolding withBytes
+bounded-bytes : (s : LineParts) (l : List ℕ) → Bounded s → Bounded (readBytes s l)
+unfolding readBytes
 bounded-bytes s [] h = h
-bounded-bytes s (b ∷ l) h = bounded-bytes (withByte s b) l (bounded-byte s b h)
+bounded-bytes s (b ∷ l) h = bounded-bytes (readByte s b) l (bounded-byte s b h)
 
 -- what is read of a line is small
 pub line-bounded : (l : List ℕ) → Bounded (readLine l)
 unfolding readLine
-line-bounded l = bounded-closed (withBytes noParts l) (bounded-bytes noParts l bounded-none)
+line-bounded l = bounded-closed (readBytes noParts l) (bounded-bytes noParts l bounded-none)

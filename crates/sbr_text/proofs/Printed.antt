@@ -9,13 +9,13 @@ use lib.Signed.{natAbs-le}
 use Rattle.sbr_reader.specs.Read.{Accepted}
 use Rattle.sbr_list.specs.Listing.{decimal, signed, spaced, className, resolution, stroke, frameLine}
 use Rattle.sbr_list.specs.Line.{Short}
-use Rattle.sbr_text.specs.Parts.{parts, noNumber, noParts, closed, withBytes, readLine, kindOf}
+use Rattle.sbr_text.specs.Parts.{parts, noNumber, noParts, closed, readBytes, readLine, kindOf}
 use Rattle.sbr_text.specs.Reads.{namedLine, Names, Legible, LineReads}
 use Rattle.sbr_text.proofs.Texts.{piece, signed-read, class-read, borders-read, noise-read, rest-read}
 
 -- a line of which all was read names what it holds
 named : (l : List ℕ) (c : Bool) (bs : List ℕ) (res : List Bool) (mark : ℤ)
-    → withBytes noParts l ≡ parts true c 3 noNumber (map pos bs) 1 mark res → Names (readLine l) bs res mark
+    → readBytes noParts l ≡ parts true c 3 noNumber (map pos bs) 1 mark res → Names (readLine l) bs res mark
 unfolding readLine kindOf
 named l c bs res mark e =
     subst (λ s. Names (closed s) bs res mark) (sym e) (record { kind = refl; borders = refl; flags = refl; marked = refl })
@@ -40,8 +40,8 @@ shown-line i f = simp append-assoc
 
 -- it is read as what it shows
 shown-read : (i : ℕ) (f : Accepted) → Short i f
-    → withBytes noParts (shown i f) ≡ parts true true 3 noNumber (map pos (f .time .tE)) 1 (f .time .lA) (f .grid .freqRes)
-unfolding signed withBytes
+    → readBytes noParts (shown i f) ≡ parts true true 3 noNumber (map pos (f .time .tE)) 1 (f .time .lA) (f .grid .freqRes)
+unfolding signed readBytes
 shown-read i f h =
     let t = f .time in
     let behind-noise : List ℕ = signed (t .lA) ++ (stroke ++ map resolution (f .grid .freqRes)) in

@@ -13,7 +13,7 @@ use Rattle.sbr_grid.specs.declared.FrameClass.{FrameClass}
 use Rattle.sbr_grid.specs.declared.FrameClass.the-variants.{FixFix, FixVar, VarFix, VarVar}
 use Rattle.sbr_list.specs.Listing.{decimal, signed, spaced, className, resolution, stroke}
 use Rattle.sbr_list.proofs.Lines.{decimal-one, decimal-two, decimal-three}
-use Rattle.sbr_text.specs.Parts.{Number, LineParts, parts, numbered, noNumber, partAfter, withNumber, closed, withByte, withBytes}
+use Rattle.sbr_text.specs.Parts.{Number, LineParts, parts, numbered, noNumber, partAfter, withNumber, closed, readByte, readBytes}
 use Rattle.sbr_text.proofs.Bytes.{bytes-append}
 
 -- a line that is well so far, and has this number
@@ -21,23 +21,23 @@ abbrev reading : LineParts → Number → LineParts
 reading s a = parts true (s .class) (s .part) a (s .borders) (s .marks) (s .mark) (s .flags)
 
 -- a text, and a blank behind it that ends its last number
-pub piece : (s u : LineParts) (t r : List ℕ) → closed (withBytes s t) ≡ u → withBytes s (t ++ (32 ∷ r)) ≡ withBytes u r
-unfolding withBytes withByte
-piece s u t r e = bytes-append s t (32 ∷ r) ∙ ap (λ x. withBytes x r) e
+pub piece : (s u : LineParts) (t r : List ℕ) → closed (readBytes s t) ≡ u → readBytes s (t ++ (32 ∷ r)) ≡ readBytes u r
+unfolding readBytes readByte
+piece s u t r e = bytes-append s t (32 ∷ r) ∙ ap (λ x. readBytes x r) e
 
 module _ (s : LineParts) (h : s .part ≤ 2) where
   -- a digit makes the number w of the number v
   grown-to : (m d : Bool) (v x w : ℕ) → x < 10 → 10 * v + x ≡ w → w < 1000
-      → withByte (reading s (numbered m d v)) (48 + x) ≡ reading s (numbered m true w)
-  unfolding withByte
+      → readByte (reading s (numbered m d v)) (48 + x) ≡ reading s (numbered m true w)
+  unfolding readByte
   grown-to m d v x w l e g =
       let q : 48 + x - 48 ≡ x = omega arith in
       let n : min (10 * v + x) 1000 ≡ w = omega arith in
       rw (le-leb 48 (48 + x) (omega arith), le-leb (48 + x) 57 (omega arith), q, n, le-leb (s .part) 2 h)
 
   -- a number in base ten is its value
-  decimal-read : (m : Bool) (n : ℕ) → n < 1000 → withBytes (reading s (numbered m false 0)) (decimal n) ≡ reading s (numbered m true n)
-  unfolding withBytes
+  decimal-read : (m : Bool) (n : ℕ) → n < 1000 → readBytes (reading s (numbered m false 0)) (decimal n) ≡ reading s (numbered m true n)
+  unfolding readBytes
   decimal-read m n l = elim (decLt n 10) [
     | yes g ↦ rw (decimal-one n g) (grown-to m false 0 n n g (omega arith) l)
     | no g ↦ elim (decLt n 100) [
@@ -58,15 +58,15 @@ module _ (s : LineParts) (h : s .part ≤ 2) where
   ]
 
   -- a minus sign begins a number
-  minus-read : withByte (reading s noNumber) 45 ≡ reading s (numbered true false 0)
-  unfolding withByte
+  minus-read : readByte (reading s noNumber) 45 ≡ reading s (numbered true false 0)
+  unfolding readByte
   minus-read = rw (le-leb (s .part) 2 h)
 
   -- a number with its sign goes to its place
-  pub signed-read : (z : ℤ) → natAbs z < 1000 → closed (withBytes (reading s noNumber) (signed z)) ≡ withNumber (reading s noNumber) z
-  unfolding withBytes withByte signed
+  pub signed-read : (z : ℤ) → natAbs z < 1000 → closed (readBytes (reading s noNumber) (signed z)) ≡ withNumber (reading s noNumber) z
+  unfolding readBytes readByte signed
   signed-read (pos n) l = rw (decimal-read false n l)
-  signed-read (negsuc n) l = ap closed (ap (λ r. withBytes r (decimal (suc n))) minus-read ∙ decimal-read true (suc n) l)
+  signed-read (negsuc n) l = ap closed (ap (λ r. readBytes r (decimal (suc n))) minus-read ∙ decimal-read true (suc n) l)
 
 -- numbers at their places, one behind the other
 unfoldable withNumbers : LineParts → List ℕ → LineParts
@@ -75,8 +75,8 @@ withNumbers s (x ∷ xs) = withNumbers (withNumber s (pos x)) xs
 
 -- numbers with blanks between go to their places
 spaced-read : (s : LineParts) (xs : List ℕ) → s .part ≤ 2 → ((i : ℕ) → getD xs i 0 < 1000)
-    → closed (withBytes (reading s noNumber) (spaced xs)) ≡ withNumbers (reading s noNumber) xs
-unfolding withBytes spaced withNumbers signed
+    → closed (readBytes (reading s noNumber) (spaced xs)) ≡ withNumbers (reading s noNumber) xs
+unfolding readBytes spaced withNumbers signed
 spaced-read s [] h small = refl
 spaced-read s (x ∷ []) h small = signed-read s h (pos x) (small 0)
 spaced-read s (x ∷ z ∷ xs) h small =
@@ -102,25 +102,25 @@ noise-past bs (x ∷ xs) = noise-past bs xs
 
 -- the letter of a resolution stands behind the others
 letter-read : (c : Bool) (bs : List ℤ) (k : ℕ) (y : ℤ) (fs : List Bool) (x : Bool) → length fs < 6
-    → withByte (parts true c 3 noNumber bs k y fs) (resolution x) ≡ parts true c 3 noNumber bs k y (fs ++ (x ∷ []))
-unfolding withByte
+    → readByte (parts true c 3 noNumber bs k y fs) (resolution x) ≡ parts true c 3 noNumber bs k y (fs ++ (x ∷ []))
+unfolding readByte
 letter-read c bs k y fs true h = rw (lt-ltb (length fs) 6 h)
 letter-read c bs k y fs false h = rw (lt-ltb (length fs) 6 h)
 
 -- letters of resolutions stand behind the others
 letters-read : (c : Bool) (bs : List ℤ) (k : ℕ) (y : ℤ) (fs res : List Bool) → length fs + length res ≤ 6
-    → withBytes (parts true c 3 noNumber bs k y fs) (map resolution res) ≡ parts true c 3 noNumber bs k y (fs ++ res)
-unfolding withBytes
+    → readBytes (parts true c 3 noNumber bs k y fs) (map resolution res) ≡ parts true c 3 noNumber bs k y (fs ++ res)
+unfolding readBytes
 letters-read c bs k y fs [] h = rw append-nil
 letters-read c bs k y fs (x ∷ res) h =
-    ap (λ s. withBytes s (map resolution res)) (letter-read c bs k y fs x (omega arith))
+    ap (λ s. readBytes s (map resolution res)) (letter-read c bs k y fs x (omega arith))
     ∙ letters-read c bs k y (fs ++ (x ∷ [])) res (omega (arith, length-append fs (x ∷ [])))
     ∙ ap (parts true c 3 noNumber bs k y) (append-snoc fs x res)
 
 -- the name of a class behind the number of a frame, and a blank, leave a line that has no border yet
 pub class-read : (k : FrameClass) (z : ℤ) (r : List ℕ)
-    → withBytes (parts true false 0 noNumber (z ∷ []) 0 (pos 0) []) (className k ++ (32 ∷ r)) ≡ withBytes (parts true true 0 noNumber [] 0 (pos 0) []) r
-unfolding withBytes withByte
+    → readBytes (parts true false 0 noNumber (z ∷ []) 0 (pos 0) []) (className k ++ (32 ∷ r)) ≡ readBytes (parts true true 0 noNumber [] 0 (pos 0) []) r
+unfolding readBytes readByte
 class-read FixFix z r = refl
 class-read FixVar z r = refl
 class-read VarFix z r = refl
@@ -128,25 +128,25 @@ class-read VarVar z r = refl
 
 -- borders and a stroke leave a line that has these borders
 pub borders-read : (c : Bool) (xs : List ℕ) (r : List ℕ) → length xs ≤ 7 → ((i : ℕ) → getD xs i 0 < 1000)
-    → withBytes (parts true c 0 noNumber [] 0 (pos 0) []) (spaced xs ++ (stroke ++ r))
-    ≡ withBytes (parts true c (min (partAfter c 0) 3) noNumber (map pos xs) 0 (pos 0) []) r
-unfolding withBytes withByte
+    → readBytes (parts true c 0 noNumber [] 0 (pos 0) []) (spaced xs ++ (stroke ++ r))
+    ≡ readBytes (parts true c (min (partAfter c 0) 3) noNumber (map pos xs) 0 (pos 0) []) r
+unfolding readBytes readByte
 borders-read c xs r h small =
     let s = parts true c 0 noNumber [] 0 (pos 0) [] in
     piece _ _ (spaced xs) (47 ∷ 32 ∷ r) (spaced-read s xs (omega arith) small ∙ borders-are c [] xs (omega arith))
 
 -- noise borders and a stroke leave a line before its mark
 pub noise-read : (bs : List ℤ) (xs : List ℕ) (r : List ℕ) → ((i : ℕ) → getD xs i 0 < 1000)
-    → withBytes (parts true true 1 noNumber bs 0 (pos 0) []) (spaced xs ++ (stroke ++ r)) ≡ withBytes (parts true true 2 noNumber bs 0 (pos 0) []) r
-unfolding withBytes withByte
+    → readBytes (parts true true 1 noNumber bs 0 (pos 0) []) (spaced xs ++ (stroke ++ r)) ≡ readBytes (parts true true 2 noNumber bs 0 (pos 0) []) r
+unfolding readBytes readByte
 noise-read bs xs r small =
     let s = parts true true 1 noNumber bs 0 (pos 0) [] in
     piece _ _ (spaced xs) (47 ∷ 32 ∷ r) (spaced-read s xs (omega arith) small ∙ noise-past bs xs)
 
 -- the mark, a stroke and the resolutions end a line
 pub rest-read : (c : Bool) (bs : List ℤ) (mark : ℤ) (res : List Bool) → natAbs mark < 1000 → length res ≤ 6
-    → withBytes (parts true c 2 noNumber bs 0 (pos 0) []) (signed mark ++ (stroke ++ map resolution res)) ≡ parts true c 3 noNumber bs 1 mark res
-unfolding withBytes withByte
+    → readBytes (parts true c 2 noNumber bs 0 (pos 0) []) (signed mark ++ (stroke ++ map resolution res)) ≡ parts true c 3 noNumber bs 1 mark res
+unfolding readBytes readByte
 rest-read c bs mark res h l =
     let s = parts true c 2 noNumber bs 0 (pos 0) [] in
     piece _ _ (signed mark) (47 ∷ 32 ∷ map resolution res) (signed-read s (omega arith) mark h)

@@ -6,7 +6,7 @@ use mathlib.Core.List.{List, [], _∷_, _++_}
 use Prim.Native.Nat.{ℕ, _+_, _-_, _*_, min}
 use lib.Dec.{leb, ltb, eqb}
 use lib.IntN.{ℤ, pos, negsuc, negℤ}
-use lib.ListN.{length, getD}
+use lib.ListN.{length}
 use Rattle.sbr_text.specs.declared.Kind.{Kind}
 use Rattle.sbr_text.specs.declared.Kind.the-variants.{Blank, Slots, Frame, Unreadable}
 
@@ -78,12 +78,12 @@ withMinus s =
     parts (s .good && (leb (s .part) 2 && not (isOpen (s .number)))) (s .class) (s .part)
     (numbered true (s .number .digits) (s .number .value)) (s .borders) (s .marks) (s .mark) (s .flags)
 
--- a letter of a class: one number stands before it, which was the frame's and no border
+-- a letter of a class: one number stands before the first, which was the frame's and no border
+abbrev pub mayName : LineParts → Bool
+mayName s = eqb (s .part) 0 && (not (isOpen (s .number)) && eqb (length (s .borders)) (cond (s .class) 0 1))
+
 abbrev pub withLetter : LineParts → LineParts
-withLetter s =
-    parts
-    (s .good && (eqb (s .part) 0 && (not (isOpen (s .number)) && eqb (length (s .borders)) (cond (s .class) 0 1))))
-    true (s .part) (s .number) [] (s .marks) (s .mark) (s .flags)
+withLetter s = parts (s .good && mayName s) true (s .part) (s .number) [] (s .marks) (s .mark) (s .flags)
 
 -- a resolution; of more than six, six are kept, as many as no grid has
 abbrev pub withFlag : LineParts → Bool → LineParts
@@ -139,20 +139,20 @@ isClassLetter b = eqb b 70 || eqb b 105 || eqb b 120 || eqb b 86 || eqb b 97 || 
 abbrev pub spoiled : LineParts → LineParts
 spoiled s = parts false (s .class) (s .part) (s .number) (s .borders) (s .marks) (s .mark) (s .flags)
 
-unfoldable pub withByte : LineParts → ℕ → LineParts
-withByte s b =
+unfoldable pub readByte : LineParts → ℕ → LineParts
+readByte s b =
     cond (isDigit b) (withDigit s (b - 48))
     (cond (isBlank b) (closed s)
     (cond (eqb b 47) (stroked (closed s))
     (cond (eqb b 45) (withMinus s)
     (cond (isFlag b) (withFlag s (eqb b 72)) (cond (isClassLetter b) (withLetter s) (spoiled s))))))
 
-unfoldable pub withBytes : LineParts → List ℕ → LineParts
-withBytes s [] = s
-withBytes s (b ∷ bs) = withBytes (withByte s b) bs
+unfoldable pub readBytes : LineParts → List ℕ → LineParts
+readBytes s [] = s
+readBytes s (b ∷ bs) = readBytes (readByte s b) bs
 
 unfoldable pub readLine : List ℕ → LineParts
-readLine l = closed (withBytes noParts l)
+readLine l = closed (readBytes noParts l)
 
 -- ---- what a line is
 

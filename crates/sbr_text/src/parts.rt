@@ -4,8 +4,8 @@ use crate::TextLine;
 ghost use mathlib.Core.Path.{_≡_};
 ghost use mathlib.Core.Bool.{cond, _&&_, _||_};
 ghost use Prim.Native.Nat.{_+_, _*_, _≤_, min};
-ghost use Rattle.sbr_text.specs.Parts.{noParts, withDigit, isOpen, withMinus, withLetter, withFlag, signedOf, withoutNumber, withNumber, closed, partAfter, stroked, isBlank, isDigit, isFlag, isClassLetter, withByte, slotsOf, kindOfNumbers, kindOf};
-ghost use Rattle.sbr_text.specs.Code.{textLineOf, partsOf, mayName, withBorder, Tidy, Held, LineIs};
+ghost use Rattle.sbr_text.specs.Parts.{noParts, withDigit, isOpen, withMinus, mayName, withLetter, withFlag, signedOf, withoutNumber, withNumber, closed, partAfter, stroked, isBlank, isDigit, isFlag, isClassLetter, readByte, slotsOf, kindOfNumbers, kindOf};
+ghost use Rattle.sbr_text.specs.Code.{textLineOf, partsOf, withBorder, Tidy, SmallNumber, LineIs};
 
 // What stands in a line so far.
 pub struct Parts {
@@ -141,7 +141,7 @@ impl Parts {
 
     // A digit behind what stands there.
     fn digit(mut self, d: u32) -> Self
-        requires { ⌜ Held self × (d ≤ 9) ⌝ }
+        requires { ⌜ SmallNumber self × (d ≤ 9) ⌝ }
         ensures { λ r. ⌜ LineIs r (withDigit (partsOf self) d) ⌝ }
     {
         self.good = both(self.good, self.part <= Parts::MARK);
@@ -265,7 +265,7 @@ impl Parts {
 
     // The end of a number, where one is being read.
     pub fn close(mut self) -> Self
-        requires { ⌜ Held self ⌝ }
+        requires { ⌜ SmallNumber self ⌝ }
         ensures { λ r. ⌜ LineIs r (closed (partsOf self)) ⌝ }
     {
         if self.digits {
@@ -289,8 +289,8 @@ impl Parts {
 
     // A byte behind what stands there.
     pub fn byte(mut self, b: u8) -> Self
-        requires { ⌜ Held self ⌝ }
-        ensures { λ r. ⌜ LineIs r (withByte (partsOf self) b) ⌝ }
+        requires { ⌜ SmallNumber self ⌝ }
+        ensures { λ r. ⌜ LineIs r (readByte (partsOf self) b) ⌝ }
     {
         if is_digit(b) {
             return self.digit((b - b'0') as u32);

@@ -1,7 +1,7 @@
--- Laws of `rises`: one border more, and the two ways that the test ends.
-use mathlib.Core.Path.{_≡_, refl}
-use mathlib.Core.Bool.{true, false, and-false}
-use Prim.Native.Nat.{ℕ, zero, suc, _+_, _≤_, _<_}
+-- Laws of `rises`: one number more, the two ways that the test ends, and how far numbers that rise are apart.
+use mathlib.Core.Path.{_≡_, refl, _∙_}
+use mathlib.Core.Bool.{true, false, and-false, false≢true}
+use Prim.Native.Nat.{ℕ, zero, suc, _+_, _-_, _≤_, _<_}
 use native.Mathlib.Omega.{arith}
 use native.Mathlib.Decide.{decLe}
 use native.Mathlib.Numerals.{add-one}
@@ -32,3 +32,23 @@ unfolding rises
 rises-same f h zero e = refl
 rises-same f h (suc k) e =
     rw (rises-same f h k (λ j l. e j (omega arith)), e k (omega arith), e (suc k) (omega arith))
+
+-- each step of numbers that rise
+pub rises-step : (f : ℕ → ℕ) (k j : ℕ) → rises f k ≡ true → j < k → f j < f (j + 1)
+rises-step f k j e h = elim (decLe (f (j + 1)) (f j)) [
+  | yes a ↦ absurd (false≢true (rises-fails f k j h a ∙ e))
+  | no a ↦ omega arith
+]
+
+-- d steps of numbers that rise
+rises-by : (f : ℕ → ℕ) (k i d : ℕ) → rises f k ≡ true → i + d ≤ k → f i + d ≤ f (i + d)
+rises-by f k i zero e h = let p : i + 0 ≡ i = omega arith in rw p (omega arith)
+rises-by f k i (suc d) e h =
+    let p : i + suc d ≡ i + d + 1 = omega arith in
+    rw p (omega (arith, rises-by f k i d e (omega arith), rises-step f k (i + d) e (omega arith)))
+
+-- a later one of numbers that rise is above an earlier one by the steps between them
+pub rises-gap : (f : ℕ → ℕ) (k i j : ℕ) → rises f k ≡ true → i ≤ j → j ≤ k → f i + (j - i) ≤ f j
+rises-gap f k i j e h l =
+    let p : i + (j - i) ≡ j = omega arith in
+    rw p at (rises-by f k i (j - i) e (omega arith))

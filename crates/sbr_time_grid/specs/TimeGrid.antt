@@ -8,6 +8,7 @@ use Prim.Native.Nat.{ℕ, zero, suc, _+_, _-_, _*_, _/_, _≤_}
 use lib.Dec.{leb, ltb, eqb}
 use lib.IntN.{ℤ, pos, negsuc, _-ℤ_}
 use lib.ListN.{length, getD}
+use Rattle.sbr_grid.specs.declared.FrameClass.{FrameClass}
 use Rattle.sbr_grid.specs.declared.Refusal.the-variants.{SlotCount, TimeGrid}
 use Rattle.sbr_grid.specs.Refusals.{Outcome, answered, answerOf, valueOr, unless}
 use Rattle.sbr_grid.specs.Grid.{byClass, Grid, numEnv}
@@ -77,13 +78,15 @@ middleBorder g =
     byClass (g .frameClass) (l / 2) (byPointer p (l - 1) (l - 1) (l + 1 - p)) (byPointer p 1 (l - 1) (p - 1))
     (byPointer p (l - 1) (l - 1) (l + 1 - p))
 
--- Table 4.176: the mark, the envelope at which an attack begins; -1 for none
-unfoldable pub lA : Grid → ℤ
-lA g =
+-- Table 4.176: the mark of pointer p in a class, with l envelopes: the envelope at which an attack begins; -1 for none
+abbrev pub markOf : FrameClass → ℕ → ℕ → ℤ
+markOf c l p =
     let none = negsuc 0 in
-    let at = pos (numEnv g + 1) -ℤ pos (g .pointer) in
-    byClass (g .frameClass) none (byPointer (g .pointer) none at at) (byPointer (g .pointer) none none (pos (g .pointer - 1)))
-    (byPointer (g .pointer) none at at)
+    let at = pos (l + 1) -ℤ pos p in
+    byClass c none (byPointer p none at at) (byPointer p none none (pos (p - 1))) (byPointer p none at at)
+
+unfoldable pub lA : Grid → ℤ
+lA g = markOf (g .frameClass) (numEnv g) (g .pointer)
 
 -- the counts are within the record (docs/ORDER.md, TG-33 to TG-36, TG-40, TG-41), and the list in use has a length for each envelope but one
 unfoldable pub countsFit : Grid → Bool

@@ -1,6 +1,6 @@
 -- `c_named::grid_for_borders` meets its contract.
 use borrow.Author.Needs.{needs}
-use mathlib.Core.Path.{_≡_, sym, ap, _∙_}
+use mathlib.Core.Path.{_≡_, sym, _∙_}
 use mathlib.Core.Bool.{true}
 use mathlib.Core.List.{map}
 use mir.Syntax.{w32}

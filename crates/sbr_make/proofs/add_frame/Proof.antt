@@ -85,11 +85,11 @@ add-t17 c = search needs
 begin-of-requires : tie.Need-begin-of-requires
 begin-of-requires c κs = search needs
 
-cast-over : tie.Need-cast-over
-cast-over c = search needs
+cast-less : tie.Need-cast-less
+cast-less c = search needs
 
-over-requires : tie.Need-over-requires
-over-requires c κs = search needs
+less-requires : tie.Need-less-requires
+less-requires c κs = search needs
 
 same-length : tie.Need-same-length
 same-length c = search needs
@@ -113,7 +113,7 @@ returns-4 c =
     let q : p .0 .0 ≡ a .frames .position + length (gridBits (viewOf (a .grid))) = cc (written w .0, p .1) in
     leaves-as (a .frames) (a .bytes .now) _ _ _ _
     (adds (making-at (d .before)) (a .first) (a .last) (viewOf (a .grid)) (meets-so d) (below w))
-    (added-is (a .frames) (a .bytes .now) (a .first) (a .last) (viewOf (a .grid)) _ _ _ (c .before .before .begin-of .ensures) (c .over .ensures) q, written w .1)
+    (added-is (a .frames) (a .bytes .now) (a .first) (a .last) (viewOf (a .grid)) _ _ _ (c .before .before .begin-of .ensures) (c .less .ensures) q, written w .1)
 
 pub add-frame-spec : {M : Type 1} → statement M
 add-frame-spec =
@@ -130,8 +130,8 @@ add-frame-spec =
     enum-known-position
     add-t17
     begin-of-requires
-    cast-over
-    over-requires
+    cast-less
+    less-requires
     same-length
     returns-3
     same-length-2

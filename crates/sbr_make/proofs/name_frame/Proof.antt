@@ -11,10 +11,10 @@ use Rattle.sbr_writer.specs.Write.{writable}
 use Rattle.sbr_named.specs.declared.Named.{Named}
 use Rattle.sbr_named.specs.Shapes.{namedGrid}
 use Rattle.sbr_named.specs.Code.{namedOf}
-use Rattle.sbr_make.specs.Making.{Making, addingChosen}
+use Rattle.sbr_make.specs.Making.{Making, addChosen}
 use Rattle.sbr_make.specs.Code.{makingOf}
 use Rattle.sbr_make.proofs.Named.{Choice, choice}
-use Rattle.sbr_make.proofs.Adding.{leaves-as, adding-as}
+use Rattle.sbr_make.proofs.Adding.{leaves-as, frame-as}
 use Rattle.sbr_make.proofs.name_frame.Statement.{statement}
 use Rattle.sbr_make.proofs.name_frame.Tie as tie
 
@@ -77,7 +77,7 @@ returns c =
     let p = c .before .before .answer .given in
     let a = start d .args in
     let r = refused-is (asked d) (p .0 .0) (ap (λ (x : Named). x .answer) (sym (named-is d)) ∙ p .1) in
-    leaves-as (a .frames) (a .bytes .now) _ _ _ _ (ap (addingChosen (making-at d) (a .borders .now)) r) (c .refusal .ensures, refl)
+    leaves-as (a .frames) (a .bytes .now) _ _ _ _ (ap (addChosen (making-at d) (a .borders .now)) r) (c .refusal .ensures, refl)
 
 same-length : tie.Need-same-length
 same-length c = search needs
@@ -87,8 +87,8 @@ returns-2 c =
     let t = c .before .before .before .before .before .before in
     let d = t .before .before in
     let a = start d .args in
-    let same = adding-as (making-at d) _ _ _ _ _ _ (c .before .before .before .before .before .border .ensures) (c .before .before .before .before .border2 .ensures) (view-so t) in
-    leaves-as (a .frames) (a .bytes .now) _ _ _ _ (ap (addingChosen (making-at d) (a .borders .now)) (given t .1) ∙ sym same) (c .before .before .add-frame .ensures)
+    let same = frame-as (making-at d) _ _ _ _ _ _ (c .before .before .before .before .before .border .ensures) (c .before .before .before .before .border2 .ensures) (view-so t) in
+    leaves-as (a .frames) (a .bytes .now) _ _ _ _ (ap (addChosen (making-at d) (a .borders .now)) (given t .1) ∙ sym same) (c .before .before .add-frame .ensures)
 
 pub name-frame-spec : {M : Type 1} → statement M
 name-frame-spec =

@@ -5,7 +5,7 @@ use Prim.Native.Nat.{_≤_, _-_}
 use native.Mathlib.Omega.{arith}
 use borrow.Author.Needs.{needs}
 use lib.ListN.{length, drop}
-use Rattle.sbr_text.specs.Parts.{noParts, closed, withBytes, readLine}
+use Rattle.sbr_text.specs.Parts.{noParts, closed, readBytes, readLine}
 use Rattle.sbr_text.specs.Code.{partsOf, textLineOf, Tidy}
 use Rattle.sbr_text.proofs.Bytes.{bytes-next, bytes-done}
 use Rattle.sbr_text.proofs.Bounds.{Bounded, bounded-none, bounded-byte}
@@ -14,7 +14,7 @@ use Rattle.sbr_text.proofs.read_line.Tie as tie
 
 abbrev Inv-loop : tie.InvT-loop
 Inv-loop line parts₀ i₀ i-end parts i =
-    (i ≤ length line) × (Tidy parts × (Bounded (partsOf parts) × (withBytes (partsOf parts) (drop i line) ≡ withBytes noParts line)))
+    (i ≤ length line) × (Tidy parts × (Bounded (partsOf parts) × (readBytes (partsOf parts) (drop i line) ≡ readBytes noParts line)))
 
 abbrev μ-loop : tie.MeasureT-loop
 μ-loop line parts₀ i₀ i-end parts i = length line - i
@@ -25,7 +25,7 @@ none-requires c κs = search needs
 loop-holds : tie.Need-loop-holds Inv-loop μ-loop
 loop-holds c =
     let e = c .none .ensures in
-    (omega arith, (e .tidy, (subst Bounded (sym (e .is)) bounded-none, ap (λ s. withBytes s (c .before .before .args .line .now)) (e .is))))
+    (omega arith, (e .tidy, (subst Bounded (sym (e .is)) bounded-none, ap (λ s. readBytes s (c .before .before .args .line .now)) (e .is))))
 
 shared-slice-read-byte : tie.Need-shared-slice-read-byte Inv-loop μ-loop
 shared-slice-read-byte c = omega arith

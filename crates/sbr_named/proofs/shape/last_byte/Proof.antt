@@ -9,8 +9,8 @@ enum-told c = search needs
 enum-told-2 : tie.Need-enum-told-2
 enum-told-2 c = search needs
 
-over-requires : tie.Need-over-requires
-over-requires c κs = search needs
+less-requires : tie.Need-less-requires
+less-requires c κs = search needs
 
 enum-told-3 : tie.Need-enum-told-3
 enum-told-3 c = search needs
@@ -18,20 +18,20 @@ enum-told-3 c = search needs
 enum-told-4 : tie.Need-enum-told-4
 enum-told-4 c = search needs
 
-over-requires-2 : tie.Need-over-requires-2
-over-requires-2 c κs = search needs
+less-requires-2 : tie.Need-less-requires-2
+less-requires-2 c κs = search needs
 
 returns : tie.Need-returns
 returns c = search needs
 
 returns-2 : tie.Need-returns-2
-returns-2 c = rw (c .before .enum-told2 .given .1) (c .over .ensures)
+returns-2 c = rw (c .before .enum-told2 .given .1) (c .less .ensures)
 
 returns-3 : tie.Need-returns-3
 returns-3 c = search needs
 
 returns-4 : tie.Need-returns-4
-returns-4 c = rw (c .before .enum-told4 .given .1) (c .over2 .ensures)
+returns-4 c = rw (c .before .enum-told4 .given .1) (c .less2 .ensures)
 
 pub last-byte-spec : {M : Type 1} → statement M
 last-byte-spec =
@@ -39,10 +39,10 @@ last-byte-spec =
     (tie.spec
     enum-told
     enum-told-2
-    over-requires
+    less-requires
     enum-told-3
     enum-told-4
-    over-requires-2
+    less-requires-2
     returns
     returns-2
     returns-3

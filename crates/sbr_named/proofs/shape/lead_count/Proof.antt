@@ -18,8 +18,8 @@ sub-result c = search needs
 enum-told-4 : tie.Need-enum-told-4
 enum-told-4 c = search needs
 
-over-requires : tie.Need-over-requires
-over-requires c κs = search needs
+less-requires : tie.Need-less-requires
+less-requires c κs = search needs
 
 cast-result : tie.Need-cast-result
 cast-result c = search needs
@@ -34,7 +34,7 @@ returns-3 : tie.Need-returns-3
 returns-3 c = rw (c .enum-told3 .given .1)
 
 returns-4 : tie.Need-returns-4
-returns-4 c = rw (c .before .enum-told4 .given .1) (c .over .ensures)
+returns-4 c = rw (c .before .enum-told4 .given .1) (c .less .ensures)
 
 pub lead-count-spec : {M : Type 1} → statement M
 lead-count-spec =
@@ -45,7 +45,7 @@ lead-count-spec =
     enum-told-3
     sub-result
     enum-told-4
-    over-requires
+    less-requires
     cast-result
     returns
     returns-2

@@ -41,14 +41,14 @@ enum-told c = search needs
 enum-told-2 : tie.Need-enum-told-2
 enum-told-2 c = search needs
 
-cast-over : tie.Need-cast-over
-cast-over c = search needs
+cast-less : tie.Need-cast-less
+cast-less c = search needs
 
-add-over : tie.Need-add-over
-add-over c = search needs
+add-less : tie.Need-add-less
+add-less c = search needs
 
-over-requires : tie.Need-over-requires
-over-requires c κs = search needs
+less-requires : tie.Need-less-requires
+less-requires c κs = search needs
 
 enum-told-3 : tie.Need-enum-told-3
 enum-told-3 c = search needs
@@ -62,26 +62,26 @@ cast-result c = let m = mark (c .before .before) in record { fits = omega arith 
 enum-told-4 : tie.Need-enum-told-4
 enum-told-4 c = search needs
 
-cast-over-2 : tie.Need-cast-over-2
-cast-over-2 c = search needs
+cast-less-2 : tie.Need-cast-less-2
+cast-less-2 c = search needs
 
-add-over-2 : tie.Need-add-over-2
-add-over-2 c = search needs
+add-less-2 : tie.Need-add-less-2
+add-less-2 c = search needs
 
-over-requires-2 : tie.Need-over-requires-2
-over-requires-2 c κs = search needs
+less-requires-2 : tie.Need-less-requires-2
+less-requires-2 c κs = search needs
 
 returns-2 : tie.Need-returns-2
 returns-2 c = rw (sent (c .before .before), c .enum-told .given .1)
 
 returns-3 : tie.Need-returns-3
-returns-3 c = rw (sent (c .before .before .before), c .before .enum-told2 .given .1) (c .over .ensures)
+returns-3 c = rw (sent (c .before .before .before), c .before .enum-told2 .given .1) (c .less .ensures)
 
 returns-4 : tie.Need-returns-4
 returns-4 c = rw (sent (c .before .before), c .enum-told3 .given .1)
 
 returns-5 : tie.Need-returns-5
-returns-5 c = rw (sent (c .before .before .before), c .before .enum-told4 .given .1) (c .over2 .ensures)
+returns-5 c = rw (sent (c .before .before .before), c .before .enum-told4 .given .1) (c .less2 .ensures)
 
 pub pointer-for-spec : {M : Type 1} → statement M
 pointer-for-spec =
@@ -91,16 +91,16 @@ pointer-for-spec =
     cast-m
     enum-told
     enum-told-2
-    cast-over
-    add-over
-    over-requires
+    cast-less
+    add-less
+    less-requires
     enum-told-3
     add-result
     cast-result
     enum-told-4
-    cast-over-2
-    add-over-2
-    over-requires-2
+    cast-less-2
+    add-less-2
+    less-requires-2
     returns-2
     returns-3
     returns-4

@@ -18,17 +18,17 @@ enum-told-3 c = search needs
 enum-told-4 : tie.Need-enum-told-4
 enum-told-4 c = search needs
 
-cast-over : tie.Need-cast-over
-cast-over c = search needs
+cast-less : tie.Need-cast-less
+cast-less c = search needs
 
-sub-over : tie.Need-sub-over
-sub-over c = search needs
+sub-less : tie.Need-sub-less
+sub-less c = search needs
 
-cast-over-2 : tie.Need-cast-over-2
-cast-over-2 c = search needs
+cast-less-2 : tie.Need-cast-less-2
+cast-less-2 c = search needs
 
-over-requires : tie.Need-over-requires
-over-requires c κs = search needs
+less-requires : tie.Need-less-requires
+less-requires c κs = search needs
 
 cast-result : tie.Need-cast-result
 cast-result c = search needs
@@ -43,7 +43,7 @@ returns-3 : tie.Need-returns-3
 returns-3 c = search needs
 
 returns-4 : tie.Need-returns-4
-returns-4 c = rw (c .before .enum-told4 .given .1) (c .over .ensures)
+returns-4 c = rw (c .before .enum-told4 .given .1) (c .less .ensures)
 
 pub trail-count-spec : {M : Type 1} → statement M
 trail-count-spec =
@@ -54,10 +54,10 @@ trail-count-spec =
     sub-result
     enum-told-3
     enum-told-4
-    cast-over
-    sub-over
-    cast-over-2
-    over-requires
+    cast-less
+    sub-less
+    cast-less-2
+    less-requires
     cast-result
     returns
     returns-2

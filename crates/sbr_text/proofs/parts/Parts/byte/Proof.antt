@@ -4,7 +4,7 @@ use mathlib.Core.Bool.{true, false}
 use native.Mathlib.Omega.{arith}
 use borrow.Author.Needs.{needs}
 use borrow.Author.Tests.{ne-eqb}
-use Rattle.sbr_text.specs.Parts.{isDigit, isBlank, isFlag, stroked, withByte}
+use Rattle.sbr_text.specs.Parts.{isDigit, isBlank, isFlag, stroked, readByte}
 use Rattle.sbr_text.proofs.Bytes.{digit-told}
 use Rattle.sbr_text.proofs.parts.Parts.byte.Statement.{statement}
 use Rattle.sbr_text.proofs.parts.Parts.byte.Tie as tie
@@ -38,7 +38,7 @@ digit-requires : tie.Need-digit-requires
 digit-requires c κs = (search needs, omega (arith, digit-told (c .before .before .args .b) (digit-is c)))
 
 returns : tie.Need-returns
-unfolding withByte
+unfolding readByte
 returns c = rw (digit-is (c .before)) (c .digit .ensures)
 
 is-blank-requires : tie.Need-is-blank-requires
@@ -48,7 +48,7 @@ close-requires : tie.Need-close-requires
 close-requires c κs = search needs
 
 returns-2 : tie.Need-returns-2
-unfolding withByte
+unfolding readByte
 returns-2 c = let t = c .before in rw (no-digit (t .before .before), sym (t .before .is-blank .ensures) ∙ t .if2 .taken) (c .close .ensures)
 
 close-requires-2 : tie.Need-close-requires-2
@@ -58,7 +58,7 @@ stroke-requires : tie.Need-stroke-requires
 stroke-requires c κs = search needs
 
 returns-3 : tie.Need-returns-3
-unfolding withByte
+unfolding readByte
 returns-3 c =
     let t = c .before .before in
     let e = c .stroke .ensures in
@@ -69,7 +69,7 @@ minus-sign-requires : tie.Need-minus-sign-requires
 minus-sign-requires c κs = search needs
 
 returns-4 : tie.Need-returns-4
-unfolding withByte
+unfolding readByte
 returns-4 c =
     let e = c .before .before in
     rw (no-digit (e .before .before .before), no-blank (e .before), c .before .if4 .taken) (c .minus-sign .ensures)
@@ -81,7 +81,7 @@ flag-requires : tie.Need-flag-requires
 flag-requires c κs = search needs
 
 returns-5 : tie.Need-returns-5
-unfolding withByte
+unfolding readByte
 returns-5 c =
     let f = c .before .before in
     let e = f .before in
@@ -100,7 +100,7 @@ class-letter-requires : tie.Need-class-letter-requires
 class-letter-requires c κs = search needs
 
 returns-6 : tie.Need-returns-6
-unfolding withByte
+unfolding readByte
 returns-6 c =
     let l = c .before .before in
     let e = l .before .before .before in
@@ -114,7 +114,7 @@ returns-6 c =
     ) (c .class-letter .ensures)
 
 returns-7 : tie.Need-returns-7
-unfolding withByte
+unfolding readByte
 returns-7 c =
     let l = c .before in
     let e = l .before .before .before in
