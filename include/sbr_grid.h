@@ -140,7 +140,7 @@ uint32_t sbr_read_grid(const uint8_t *bytes, size_t bytes_len, uint64_t num_time
 /*
  * The grid for borders that are named: the record whose time grid has exactly these borders and this mark, with these resolutions, as
  * sbr_read_grid gives it for its bits; sbr_write_grid takes it, wherever there is room. Of several such records it is the one with the fewest
- * written bits, then the smaller class, fewer leading lengths, the smaller pointer. Its noise borders are those of its pointer.
+ * written bits, then the smaller class, fewer leading lengths, the smaller pointer. Its noise borders are those of its class and pointer.
  * Refused by 1, then 5 (a resolution above 1), then 10, exactly where no record that can be written has them: also unless there are
  * two to six borders and one resolution fewer.
  *
