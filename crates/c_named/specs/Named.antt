@@ -1,4 +1,4 @@
--- What the call of C for named borders comes to, and what it is given where it is answered.
+-- What the call of C for named borders comes to.
 use mathlib.Core.List.{List, map}
 use Prim.Native.Nat.{ℕ}
 use lib.Dec.{leb, eqb}

@@ -47,8 +47,8 @@ pub record Claims : Type 1 where
   pub no-grid-exactly : NoGridExactly
   pub counts-named : CountsNamed
   pub clearing-keeps : ClearingKeeps
-  -- a line that is printed is read as what it shows; a stream that is made of lines is read as they say, and a list is given back; bytes past those that
-  -- are read change nothing
+  -- a line that is printed is read as what it shows; a stream that is made of lines is read as they say; a list of frames with the class and the noise
+  -- borders of the grids that are chosen is given back; bytes past the first 65,536 of a text change nothing
   pub line-reads : LineReads
   pub made-is-read : MadeIsRead
   pub given-back : GivenBack

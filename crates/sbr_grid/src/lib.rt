@@ -130,7 +130,8 @@ pub enum Refusal {
     Tables,
     // Too little room for what is to be written, or a text of more frames or bytes than are taken.
     Room,
-    // A record that sbr_grid() can't carry, or that can't be formed of what C hands in; a switch above 1; a line of text that can't be read.
+    // A record that sbr_grid() can't carry, or that can't be formed of what C hands in; a switch or resolution above 1; a line of text
+    // that can't be read, or a slot count behind a frame.
     Record,
     // A record that has no time grid.
     TimeGrid,

@@ -1,4 +1,4 @@
--- The claims of specs/Back.antt: a stream that is made is read as its lines, and a list that is printed is given back.
+-- The claims of specs/Back.antt: a stream that is made is read as its lines, and a list of grids such as are chosen is given back.
 use mathlib.Core.Path.{_≡_, refl, sym, ap, _∙_, subst}
 use mathlib.Core.Bool.{true, false}
 use mathlib.Core.List.{List, _∷_, _++_}

@@ -18,7 +18,7 @@ abbrev μ-loop : tie.MeasureT-loop
 abbrev start : (t : tie.In-loop Inv-loop μ-loop) → tie.Start Inv-loop μ-loop
 start t = t .before .before .before .before
 
--- a line that is not too long, from a place behind it
+-- a line that ends within the longest text, from a place behind it
 abbrev taken : tie.After-add-line Inv-loop μ-loop → tie.Else1 Inv-loop μ-loop
 taken d = d .before .before .before
 
