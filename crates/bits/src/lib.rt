@@ -1,4 +1,6 @@
 // Fields of bits in lent bytes, most significant bit first, at any bit position: whether there is room for one, putting one, looking at bits.
+#![tactic(auto)]
+
 ghost use Rattle.std.specs.Prelude.{◌≡◌};
 ghost use Rattle.bits.specs.Room.{end_of, room_for, placed, after_field, window_of};
 

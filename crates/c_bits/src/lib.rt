@@ -1,4 +1,6 @@
 // What the calls of C for writing and time grids do. sbr_c exports them.
+#![tactic(auto)]
+
 ghost use Rattle.c_values.specs.Handed.{handed};
 ghost use Rattle.c_values.specs.Given.{Gives, time_out};
 ghost use Rattle.c_bits.specs.Calls.{write_call, time_call, write_out};

@@ -1,4 +1,6 @@
 // What the call of C for an election does. sbr_c exports it.
+#![tactic(auto)]
+
 ghost use Rattle.c_values.specs.Given.{Gives};
 ghost use Rattle.c_elect.specs.Elections.{elect_call, election_out};
 

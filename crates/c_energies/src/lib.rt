@@ -1,4 +1,6 @@
 // What the call of C for energies does. sbr_c exports it.
+#![tactic(auto)]
+
 ghost use Rattle.std.specs.Prelude.{length};
 ghost use Rattle.c_values.specs.Handed.{handed};
 ghost use Rattle.c_values.specs.Given.{Gives};

@@ -1,4 +1,6 @@
 // What the call of C for named borders does. sbr_c exports it.
+#![tactic(auto)]
+
 ghost use Rattle.c_values.specs.Given.{Gives, record_out};
 ghost use Rattle.c_named.specs.Named.{named_call};
 

@@ -1,4 +1,6 @@
 // What the call of C for reading does. sbr_c exports it.
+#![tactic(auto)]
+
 ghost use Rattle.sbr_reader.specs.Read.{read_grid};
 ghost use Rattle.c_values.specs.Given.{Gives};
 ghost use Rattle.c_read.specs.Frames.{carried_in, frame_out};

@@ -1,4 +1,6 @@
 // What the call of C for a turn does. sbr_c exports it.
+#![tactic(auto)]
+
 ghost use Rattle.c_values.specs.Given.{Gives};
 ghost use Rattle.c_send.specs.Turns.{send_call, send_out};
 

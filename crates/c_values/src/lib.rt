@@ -1,3 +1,5 @@
 // What C hands in, and what C is given.
+#![tactic(auto)]
+
 pub mod form;
 pub mod give;

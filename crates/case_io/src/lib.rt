@@ -1,5 +1,7 @@
 // What the programs that replay cases read from standard input and print: numbers, tables, samples, records. Numbers have their low byte
 // first; past the end of the input every byte is 0.
+#![tactic(auto)]
+
 ghost use Rattle.std.specs.Prelude.{◌≡◌, ◌≤◌, ◌%◌, nat_abs, length, replicate, not, eqb};
 ghost use Rattle.std.specs.Float.Ieee.{of_bits};
 ghost use Rattle.std.specs.Float.{binary64};

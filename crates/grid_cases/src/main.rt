@@ -1,4 +1,6 @@
 // Prints the time grid or the bits of each record that it reads from standard input, a line for each. tools/grid_cases.py says what a case is.
+#![tactic(auto)]
+
 ghost use Rattle.std.specs.Prelude.{◌≡◌, ◌≤◌, length};
 
 use libc::STDIN_FILENO;

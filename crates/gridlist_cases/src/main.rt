@@ -1,5 +1,7 @@
 // Prints the listing of each case that it reads from standard input, and a line with a dot after each. A case is two bytes of
 // length, low byte first, and that many bytes.
+#![tactic(auto)]
+
 ghost use Rattle.std.specs.Prelude.{◌≡◌, ◌+◌, ◌*◌, ◌≤◌};
 
 use libc::{STDIN_FILENO, STDOUT_FILENO};

@@ -1,5 +1,7 @@
 // Makes a stream of grids out of lines of text that it reads from standard input. Where a line is refused, standard error has its number and why, and
 // standard output nothing.
+#![tactic(auto)]
+
 use libc::{STDERR_FILENO, STDIN_FILENO, STDOUT_FILENO};
 use sbr_grid::Refusal;
 use sbr_make::Made;

@@ -1,4 +1,6 @@
 // Reads a stream of grids from standard input and prints its listing.
+#![tactic(auto)]
+
 ghost use Rattle.std.specs.Prelude.{◌≡◌, ◌≤◌, min, length};
 ghost use Rattle.io.specs.Counts.{IsPrefixLen};
 ghost use Rattle.sbr_list.specs.Listing.{listing};

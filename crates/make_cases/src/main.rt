@@ -1,4 +1,6 @@
 // Prints what each text that it reads from standard input makes, a line for each. tools/make_cases.py says what a case is.
+#![tactic(auto)]
+
 ghost use Rattle.std.specs.Prelude.{◌≡◌, ◌≤◌, length};
 
 use libc::STDIN_FILENO;

@@ -1,4 +1,6 @@
 // Prints the record for the named borders of each case that it reads from standard input, a line for each. tools/named_cases.py says what a case is.
+#![tactic(auto)]
+
 ghost use Rattle.std.specs.Prelude.{◌≡◌, ◌≤◌, length};
 
 use libc::STDIN_FILENO;

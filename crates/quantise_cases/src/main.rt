@@ -1,4 +1,6 @@
 // Prints the quantised values of the energies of each case that it reads from standard input, a line for each. tools/quantise_cases.py says what a case is.
+#![tactic(auto)]
+
 ghost use Rattle.std.specs.Prelude.{◌≡◌, ◌≤◌, length};
 
 use libc::STDIN_FILENO;

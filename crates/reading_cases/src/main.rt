@@ -1,4 +1,6 @@
 // Prints what readings give and leave, a line for each. The bytes and the readings come from standard input; tools/reading_cases.py says what a case is.
+#![tactic(auto)]
+
 use libc::STDIN_FILENO;
 use sbr_grid::Answer;
 use sbr_reader::Carried;

@@ -1,5 +1,7 @@
 // Drives runs of a transmitter and of a receiver through send_frame and receive_frame, and checks what is read against what was sent. The
 // turns, the readings and the bytes that are changed between them come from standard input; tools/run_cases.py says what they are.
+#![tactic(auto)]
+
 ghost use Rattle.std.specs.Prelude.{◌≡◌, ◌≤◌, length};
 
 use libc::STDIN_FILENO;

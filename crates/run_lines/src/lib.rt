@@ -1,4 +1,6 @@
 // Frames of runs as numbers, and frames and places as text, for run_cases and reading_cases.
+#![tactic(auto)]
+
 ghost use Rattle.std.specs.Prelude.{◌≡◌, ◌+◌, ◌*◌, ◌≤◌};
 ghost use Rattle.bits.specs.Bits.{bit_n, num_of};
 ghost use Rattle.sbr_grid.specs.Grid.{class_code};

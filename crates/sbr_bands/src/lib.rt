@@ -1,4 +1,6 @@
 // The tests of the band tables: docs/ORDER.md, RF-11 to RF-18.
+#![tactic(auto)]
+
 ghost use Rattle.std.specs.Prelude.{◌≡◌, true, false, ℕ, ◌-◌, ◌≤◌, ◌<◌, length, get_or};
 ghost use Rattle.sbr_bands.specs.Tables.{entry, climbs, among, drawn, high_fits, low_fits, tables_fit};
 

@@ -1,4 +1,6 @@
 // Borders that a plan puts in a frame: shifts of the wanted borders, and the even lengths that reach them (src/sbr_encoder.rs).
+#![tactic(auto)]
+
 ghost use Rattle.std.specs.Prelude.{◌≡◌, true, false, ℕ, ◌+◌, ◌-◌, ◌≤◌, ◌<◌, get_or};
 ghost use Rattle.sbr_grid.specs.Grid.{first};
 ghost use Rattle.sbr_build.specs.Build.{lengths_of};

@@ -1,4 +1,6 @@
 // Grids of even envelopes, and what all builders are made of: src/sbr_encoder.rs.
+#![tactic(auto)]
+
 ghost use Rattle.std.specs.Prelude.{◌≡◌, false, [], ◌∷◌, map, ◌+◌, ◌-◌, ◌≤◌, ◌<◌, replicate};
 ghost use Rattle.sbr_grid.specs.Grid.{first, record_of};
 ghost use Rattle.sbr_build.specs.Cases.{FrameBounds};

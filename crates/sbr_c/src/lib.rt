@@ -1,6 +1,8 @@
 // The calls of the C firmware: plain numbers and ranges of bytes, in and out. Each answers 0, or the number of a refusal, and a
 // refused call leaves everything that was lent as it was. What they do stands in c_bits, c_read, c_elect,
 // c_energies, c_quantise, c_named and c_send.
+#![tactic(auto)]
+
 ghost use Rattle.std.specs.Prelude.{length};
 ghost use Rattle.sbr_reader.specs.Read.{read_grid};
 ghost use Rattle.c_values.specs.Handed.{handed};

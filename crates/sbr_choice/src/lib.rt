@@ -1,4 +1,6 @@
 // The grid of a frame whose onsets are known: whole numbers only. From src/sbr_encoder.rs.
+#![tactic(auto)]
+
 ghost use Rattle.std.specs.Prelude.{◌≡◌, ◌-◌, ◌≤◌, ◌<◌, get_or};
 ghost use Rattle.sbr_grid.specs.Grid.{record_of};
 ghost use Rattle.sbr_build.specs.Cases.{FrameBounds, Case, onset_list};

@@ -1,4 +1,6 @@
 // The election of a frame's grid: src/sbr_encoder.rs.
+#![tactic(auto)]
+
 ghost use Rattle.std.specs.Prelude.{◌≡◌, true, ◌+◌, get_or};
 ghost use Rattle.sbr_grid.specs.Refusals.{answered, refused};
 ghost use Rattle.sbr_grid.specs.Grid.{record_of, view_of};

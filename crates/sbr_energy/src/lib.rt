@@ -1,4 +1,6 @@
 // Energies of samples: src/sbr_encoder.rs.
+#![tactic(auto)]
+
 ghost use Rattle.std.specs.Prelude.{◌≡◌, ◌+◌, ◌*◌, ◌≤◌, length};
 ghost use Rattle.sbr_qmf.specs.Qmf.{columns};
 ghost use Rattle.sbr_energy.specs.Energy.{band_sum, slot_energies};

@@ -1,4 +1,6 @@
 // Energies of envelopes: `estimate_envelopes` of src/sbr_encoder.rs.
+#![tactic(auto)]
+
 ghost use Rattle.std.specs.Prelude.{◌≡◌, true, false, ℕ, ◌+◌, ◌-◌, ◌≤◌, ◌<◌, length, get_or};
 ghost use Rattle.sbr_grid.specs.Refusals.{answered, Leaves};
 ghost use Rattle.sbr_grid.specs.Grid.{first, view_of};

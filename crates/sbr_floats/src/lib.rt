@@ -1,4 +1,6 @@
 // The operations on numbers of 64 bits that elections and energies use: src/sbr_encoder.rs.
+#![tactic(auto)]
+
 ghost use Rattle.std.specs.Prelude.{◌≡◌, false};
 ghost use Rattle.std.specs.Float.Ieee.{is_nan};
 ghost use Rattle.sbr_floats.specs.Floats.{max_of, min_of, mean_of, spread_is_high};

@@ -1,4 +1,6 @@
 // The grid record of src/sbr_grid.rs, with its limits, the record of its time grid, and the refusals of every call.
+#![tactic(auto)]
+
 ghost use Rattle.std.specs.Prelude.{◌≡◌, ◌+◌, ◌%◌};
 ghost use Rattle.sbr_grid.specs.Refusals.{number_of};
 ghost use Rattle.sbr_grid.specs.Grid.{class_code, class_of, empty, table_width};

@@ -1,4 +1,6 @@
 // The listing of a stream of grids: what the program `gridlist` prints.
+#![tactic(auto)]
+
 ghost use Rattle.std.specs.Prelude.{◌≡◌, ◌+◌, ◌≤◌, pos, length};
 ghost use Rattle.std.proofs.lemmas.List.Edits.{sets};
 ghost use Rattle.sbr_reader.specs.Read.{starting};

@@ -1,4 +1,6 @@
 // A stream made of lines of text: what the program `gridmake` writes.
+#![tactic(auto)]
+
 ghost use Rattle.std.specs.Prelude.{◌≡◌, true, cond, ◌||◌, List, ℕ, ◌-◌, ◌≤◌, ◌<◌, eqb, pos, length, get_or, replicate};
 ghost use Rattle.sbr_grid.specs.Refusals.{Leaves, refused};
 ghost use Rattle.sbr_grid.specs.Grid.{view_of};

@@ -1,4 +1,6 @@
 // A grid for borders that are named: the record that sends them, if there is one.
+#![tactic(auto)]
+
 ghost use Rattle.std.specs.Prelude.{◌≡◌, true, false, map, ◌+◌, ◌≤◌, nat_abs, get_or};
 ghost use Rattle.sbr_grid.specs.Refusals.{refused};
 ghost use Rattle.sbr_grid.specs.Grid.{first};

@@ -1,4 +1,6 @@
 // Onsets of a frame from its slot energies, and its lead: src/sbr_encoder.rs.
+#![tactic(auto)]
+
 ghost use Rattle.std.specs.Prelude.{◌≡◌, true, ◌+◌, ◌-◌, ◌≤◌, ◌<◌};
 ghost use Rattle.sbr_floats.specs.Floats.{total};
 ghost use Rattle.sbr_build.specs.Cases.{onsets_record};

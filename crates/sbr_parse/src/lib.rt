@@ -1,5 +1,7 @@
 // sbr_grid() read: the fields taken from the front of some bits, as `SbrGrid::parse` of src/sbr_grid.rs does. A window's bits are the low bits
 // of its number: bits above them are those that were taken before.
+#![tactic(auto)]
+
 ghost use Rattle.std.specs.Prelude.{◌≡◌, true, false, reverse, ◌+◌, ◌-◌, ◌*◌, ◌/◌, ◌%◌, ◌^◌, ◌≤◌, ◌<◌, replicate};
 ghost use Rattle.bits.specs.Bits.{bit_at, bits_of};
 ghost use Rattle.sbr_grid.specs.Refusals.{refused};

@@ -1,4 +1,6 @@
 // A complex sample: src/sbr_qmf.rs; and how many of them a frame needs.
+#![tactic(auto)]
+
 ghost use Rattle.std.specs.Prelude.{◌≡◌, cond};
 ghost use Rattle.sbr_grid.specs.Times.{is_slot_count};
 ghost use Rattle.sbr_qmf.specs.Qmf.{norm_sqr, samples_needed};

@@ -1,4 +1,6 @@
 // Quantised energies of envelopes: `quantise_envelopes` of src/sbr_encoder.rs, decided by comparisons of whole numbers in place of a logarithm.
+#![tactic(auto)]
+
 ghost use Rattle.std.specs.Prelude.{◌≡◌, true, map, ◌+◌, ◌≤◌, ◌<◌, min, length};
 ghost use Rattle.std.specs.Float.Ieee.{lt};
 ghost use Rattle.sbr_grid.specs.Refusals.{answered, answer_of, Leaves};

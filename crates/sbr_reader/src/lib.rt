@@ -1,4 +1,6 @@
 // sbr_grid() read by a receiver, with its time grid and the chain of frames. An addition: the Rust has no such function.
+#![tactic(auto)]
+
 ghost use Rattle.std.specs.Prelude.{◌≡◌, ◌^◌, ◌≤◌, ◌<◌, pos, get_or};
 ghost use Rattle.sbr_grid.specs.Refusals.{refused};
 ghost use Rattle.sbr_grid.specs.Times.{is_number};

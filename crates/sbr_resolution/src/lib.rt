@@ -1,4 +1,6 @@
 // Resolutions of envelopes: `elect_freq_res` of src/sbr_encoder.rs.
+#![tactic(auto)]
+
 ghost use Rattle.std.specs.Prelude.{◌≡◌, false, map, ℕ, ◌+◌, ◌-◌, ◌≤◌, ◌<◌, length, get_or, take};
 ghost use Rattle.sbr_grid.specs.Grid.{first};
 ghost use Rattle.sbr_qmf.specs.Qmf.{columns};

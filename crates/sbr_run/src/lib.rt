@@ -1,4 +1,6 @@
 // A transmitter's turn and a receiver's reading, each with what it carries on. The claim about whole lists of them is in specs/Term3.antt.
+#![tactic(auto)]
+
 ghost use Rattle.std.specs.Prelude.{◌≡◌, ◌≤◌, get_or};
 ghost use Rattle.sbr_grid.specs.declared.Answer.TheVariants.{Given};
 ghost use Rattle.sbr_grid.specs.Refusals.{refused, Leaves};

@@ -1,1 +1,2 @@
 // A run and its readings, computed: specs/Sample.antt.
+#![tactic(auto)]

@@ -1,4 +1,6 @@
 // The border search, the cheapest VarVar grid with a border for each onset: src/sbr_encoder.rs.
+#![tactic(auto)]
+
 ghost use Rattle.std.specs.Prelude.{◌≡◌, true, false, ◌+◌, ◌-◌, ◌≤◌, ◌<◌, get_or};
 ghost use Rattle.sbr_grid.specs.Grid.{first, record_of};
 ghost use Rattle.sbr_search.specs.Search.{beats, try_ends, try_shifts, search, bare, isolated, plan_grid, planned, plain_wins, multi_onset_grid};

@@ -1,4 +1,6 @@
 // A line of text that names a frame, read.
+#![tactic(auto)]
+
 ghost use Rattle.std.specs.Prelude.{◌≡◌};
 ghost use Rattle.sbr_text.specs.Parts.{read_line};
 ghost use Rattle.sbr_text.specs.Code.{text_line_of};

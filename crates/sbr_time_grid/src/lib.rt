@@ -1,4 +1,6 @@
 // The time grid of a record: src/sbr_time_grid.rs.
+#![tactic(auto)]
+
 ghost use Rattle.std.specs.Prelude.{◌≡◌, ◌-◌};
 ghost use Rattle.sbr_grid.specs.Refusals.{refused};
 ghost use Rattle.sbr_grid.specs.Grid.{view_of};

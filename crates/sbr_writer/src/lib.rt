@@ -1,4 +1,6 @@
 // sbr_grid() written: `write_grid` of src/sbr_writer.rs.
+#![tactic(auto)]
+
 ghost use Rattle.sbr_grid.specs.Refusals.{Leaves};
 ghost use Rattle.sbr_grid.specs.Grid.{view_of};
 ghost use Rattle.sbr_writer.specs.Write.{write_grid, written_of, bytes_after};
