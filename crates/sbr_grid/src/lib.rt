@@ -7,7 +7,7 @@ ghost use Rattle.sbr_grid.specs.Grid.{class_code, class_of, empty, table_width};
 ghost use Rattle.sbr_grid.specs.Times.{is_slot_count, empty_time};
 
 // bs_frame_class.
-#[derive(Drop)]
+#[derive(Clone, Copy)]
 pub enum FrameClass {
     FixFix,
     FixVar,
@@ -53,7 +53,7 @@ impl FrameClass {
 
 // The fields of sbr_grid() for one channel. A list is an array with a count beside it; only the places below the count
 // are in use.
-#[derive(Drop)]
+#[derive(Clone, Copy)]
 pub struct SbrGrid {
     pub frame_class: FrameClass,
     // bs_num_env: the count of freq_res.
@@ -124,7 +124,7 @@ pub fn ptr_bits(num_env: usize) -> u32
 }
 
 // Why a call gives no result.
-#[derive(Drop)]
+#[derive(Clone, Copy)]
 pub enum Refusal {
     // The slot count is neither 15 nor 16.
     SlotCount,
@@ -170,14 +170,14 @@ impl Refusal {
 }
 
 // Whether a call answered. What it answers stands beside it.
-#[derive(Drop)]
+#[derive(Clone, Copy)]
 pub enum Answer {
     Given,
     Refused(Refusal),
 }
 
 // The borders of a frame. Places past a count are zero.
-#[derive(Drop)]
+#[derive(Clone, Copy)]
 pub struct TimeGrid {
     // The envelopes; there is one border more.
     pub num_env: usize,
