@@ -21,6 +21,8 @@ FIELD = re.compile(r"^  (?:pub\s+)?([^\s:(){}.;,|=]+)\s*:\s")
 BY_HAND = {
     "slotCount": "is_slot_count", "sameMark": "is_same_mark", "takesField": "is_field_taken", "leadOf": "lead_for", "onsetsOf": "onsets_for", "peakOf": "peak_for", "inTerms": "reading_in_terms",
 }
+# names that files also import from the library
+KEPT = {"and-false"}
 # words of the library that lemmas are about
 WORDS = set("length drop take append get_or set replicate map reverse sum add mul sub div mod pow le lt".split())
 
@@ -73,7 +75,7 @@ def turned(specs, lemmas, fields):
     words = WORDS | {snake(n) for n in specs}
     new = {}
     for n in sorted(specs | lemmas | fields):
-        if not lower(n):
+        if not lower(n) or n in KEPT:
             continue
         if "-" in n and not n.startswith("-"):
             parts = [snake(p).replace("getd", "get_or").replace("get_d", "get_or") for p in n.split("-")]

@@ -16,7 +16,7 @@ use Rattle.sbr_grid.proofs.First.{first-drop, first-drop_past, first-first}
 use Rattle.sbr_time_grid.specs.TimeGrid.{time_grid}
 use Rattle.sbr_time_grid.proofs.Ends.{time_ends}
 use Rattle.sbr_writer.specs.Write.{writable}
-use Rattle.sbr_writer.proofs.Writable.{and_false}
+use Rattle.sbr_writer.proofs.Writable.{and-false}
 use Rattle.sbr_named.specs.Shapes.{same_list, is_same_mark, has_times, has_borders}
 
 -- ---- the first places of two arrays
@@ -44,7 +44,7 @@ module _ (n : ℕ) (bs : List ℕ) (mark : ℤ) (g : Grid) where
   -- one without a time grid fails
   pub has-timeless : (e : Refusal) → time_grid n g ≡ refused e → false ≡ has_borders n bs mark g
   unfolding has_borders has_times
-  has-timeless e h = rw h (sym (and_false (writable g)))
+  has-timeless e h = rw h (sym (and-false (writable g)))
 
   -- one with a time grid is tested by its borders and its mark
   pub has-timed : (t : Times) → writable g ≡ true → time_grid n g ≡ answered t → has_borders n bs mark g ≡ (same_list t.t_e bs && is_same_mark t.l_a mark)

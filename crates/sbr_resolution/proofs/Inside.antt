@@ -1,6 +1,6 @@
 -- The bands of the high table inside a band of the low one, and the low bands one after another.
 use mathlib.Core.Path.{◌≡◌, refl, sym}
-use mathlib.Core.Bool.{Bool, true, false, cond, ◌&&◌, ◌||◌, and_false}
+use mathlib.Core.Bool.{Bool, true, false, cond, ◌&&◌, ◌||◌, and-false}
 use mathlib.Core.List.{List, [], ◌∷◌, ◌++◌, map, append-nil}
 use Prim.Native.Nat.{ℕ, zero, suc, ◌+◌, ◌-◌, ◌≤◌, ◌<◌}
 use native.Mathlib.Decide.{ℕ_discrete, dec_le}
@@ -62,7 +62,7 @@ module _ (t : List ℕ) (n a b : ℕ) (table : Table t n) (h : a ≤ b) (l : b <
       in
       let s : inside lo (spans_from t b (length t - 1 - b)) ≡ [] =
       inside_each lo t b (length t - 1 - b) false
-      (λ j q r. rw (lt-leb (entry t (j + 1)) (entry t b) (table.rising b (j + 1) (omega arith) (omega arith)), and_false))
+      (λ j q r. rw (lt-leb (entry t (j + 1)) (entry t b) (table.rising b (j + 1) (omega arith) (omega arith)), and-false))
       in
       rw (e, spans-append t 0 a (b - a + (length t - 1 - b)), inside-append, p, zero-add, spans-append t a (b - a) (length t - 1 - b), inside-append, r, m, s, append-nil)
 

@@ -1,6 +1,6 @@
 -- The search by its loops: the counts of leading lengths, the ends, the turns.
 use mathlib.Core.Path.{◌≡◌, refl, sym, ap, ◌∙◌}
-use mathlib.Core.Bool.{Bool, true, false, cond, and_false}
+use mathlib.Core.Bool.{Bool, true, false, cond, and-false}
 use mathlib.Core.List.{List, [], ◌∷◌, map}
 use mathlib.Core.Option.{Option, none, some}
 use Prim.Native.Nat.{ℕ, zero, suc, ◌+◌, ◌-◌, ◌≤◌, ◌<◌}
@@ -48,7 +48,7 @@ module _ (over n lead : ℕ) (is bs : List ℕ) (c : ℕ) (best : Option Best) w
   -- the cost is not below the least
   pub end-dear : beats (c + over) best ≡ false → best ≡ try_ends 1 over n lead is bs c best
   unfolding try_ends
-  end-dear e = rw (e, and_false (ltb (last_or lead bs) (n + over)))
+  end-dear e = rw (e, and-false (ltb (last_or lead bs) (n + over)))
 
   module _ (h : last_or lead bs < n + over) (e : beats (c + over) best ≡ true) where
     -- no count of leading lengths reaches every border
@@ -84,7 +84,7 @@ ends_dear : (j over n lead : ℕ) (is bs : List ℕ) (c : ℕ) (best : Option Be
 unfolding try_ends
 ends_dear zero over n lead is bs c best e = refl
 ends_dear (suc j) over n lead is bs c best e =
-    rw (beats_more c over best e, and_false (ltb (last_or lead bs) (n + over))) (ends_dear j (suc over) n lead is bs c best e)
+    rw (beats_more c over best e, and-false (ltb (last_or lead bs) (n + over))) (ends_dear j (suc over) n lead is bs c best e)
 
 -- whatever is chosen between two equal plans
 cond_same : (b : Bool) (x y : Option Best) → x ≡ y → cond b x y ≡ y

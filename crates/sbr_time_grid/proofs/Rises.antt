@@ -1,6 +1,6 @@
 -- Laws of `rises`: one number more, the two ways that the test ends, and how far numbers that rise are apart.
 use mathlib.Core.Path.{◌≡◌, refl, ◌∙◌}
-use mathlib.Core.Bool.{true, false, and_false, false≢true}
+use mathlib.Core.Bool.{true, false, and-false, false≢true}
 use Prim.Native.Nat.{ℕ, zero, suc, ◌+◌, ◌-◌, ◌≤◌, ◌<◌}
 use native.Mathlib.Omega.{arith}
 use native.Mathlib.Decide.{dec_le}
@@ -19,7 +19,7 @@ unfolding rises
 fails f k l h g ih (yes a) = rw (← ih a)
 fails f k l h g ih (no a) =
     let e : l ≡ k = omega arith in
-    rw (le-ltb (f k) (f (suc k)) (rw (← add-one k, ← e) g), and_false (rises f k))
+    rw (le-ltb (f k) (f (suc k)) (rw (← add-one k, ← e) g), and-false (rises f k))
 
 -- a border that is not above the one before it: the borders do not rise
 pub rises_fails : (f : ℕ → ℕ) (k l : ℕ) → l < k → f (l + 1) ≤ f l → false ≡ rises f k

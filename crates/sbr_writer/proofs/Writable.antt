@@ -24,9 +24,9 @@ pub both : (a b : Bool) → (a && b) ≡ true → (a ≡ true) × (b ≡ true)
 both true b e = (refl, e)
 both false b e = (e, cc)
 
-pub and_false : (a : Bool) → (a && false) ≡ false
-and_false true = refl
-and_false false = refl
+pub and-false : (a : Bool) → (a && false) ≡ false
+and-false true = refl
+and-false false = refl
 
 -- one turn of a test of every element
 pub every-next : {A : Type 0} (f : A → Bool) (d : A) (n i : ℕ) (xs : List A) → i < n → f (get_or xs i d) ≡ true

@@ -1,5 +1,5 @@
 use mathlib.Core.Path.{◌≡◌, refl}
-use mathlib.Core.Bool.{true, ◌&&◌, and_false}
+use mathlib.Core.Bool.{true, ◌&&◌, and-false}
 use Prim.Native.Nat.{◌+◌, ◌-◌}
 use native.Mathlib.Omega.{arith}
 use borrow.Author.Tests.{le-leb, lt-leb, eq-eqb, ne_eqb}
@@ -82,8 +82,8 @@ returns-3 c =
       double_from_lem a.s1 a.s2 a.lead a.nts _ _ _ t.Tail-of.ensures.0 p.aligned-attack.ensures.0 refl,
       ends p.before,
       lt-leb (p.aligned-attack.result + 3) a.s2 (omega arith),
-      and_false (leb (p.aligned-attack.result - a.lead) 8),
-      and_false (leb a.nts (a.s2 + 2)),
+      and-false (leb (p.aligned-attack.result - a.lead) 8),
+      and-false (leb a.nts (a.s2 + 2)),
       c.not-double3.ensures,
     )
 

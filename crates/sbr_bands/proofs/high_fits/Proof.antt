@@ -1,5 +1,5 @@
 use mathlib.Core.Path.{sym, ◌∙◌}
-use mathlib.Core.Bool.{and_false}
+use mathlib.Core.Bool.{and-false}
 use native.Mathlib.Omega.{arith}
 use borrow.Author.Rules.{rules}
 use borrow.Author.Tests.{not-true, not-false, le-leb}
@@ -18,7 +18,7 @@ is-climbing-requires c κs = search rules
 
 returns-2 : tie.Need-returns-2
 unfolding high_fits
-returns-2 c = simp (sym c.before.is-climbing.ensures ∙ not-true _ c.if2.true, and_false)
+returns-2 c = simp (sym c.before.is-climbing.ensures ∙ not-true _ c.if2.true, and-false)
 
 sub-result : tie.Need-overflow-sub-result
 sub-result c = search rules

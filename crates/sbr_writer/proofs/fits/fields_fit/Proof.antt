@@ -1,7 +1,7 @@
 -- `sbr_writer::fits::fields_fit` meets its contract.
 use mathlib.Core.Path.{sym, ◌∙◌}
 use borrow.Author.Tests.{lt-leb, not-true, not-false}
-use Rattle.sbr_writer.proofs.Writable.{and_false, fields_view, Numbers, fields_pass}
+use Rattle.sbr_writer.proofs.Writable.{and-false, fields_view, Numbers, fields_pass}
 use native.Mathlib.Omega.{arith}
 use borrow.Author.Rules.{rules}
 use Rattle.sbr_writer.proofs.fits.fields_fit.Statement.{statement}
@@ -15,31 +15,31 @@ returns : tie.Need-returns
 returns c = rw (fields_view, lt-leb 1 _ c.if1.true)
 
 returns-2 : tie.Need-returns-2
-returns-2 c = rw (fields_view, lt-leb _ 5 c.if2.true, and_false)
+returns-2 c = rw (fields_view, lt-leb _ 5 c.if2.true, and-false)
 
 returns-3 : tie.Need-returns-3
-returns-3 c = rw (fields_view, lt-leb _ 3 c.if3.true, and_false)
+returns-3 c = rw (fields_view, lt-leb _ 3 c.if3.true, and-false)
 
 returns-4 : tie.Need-returns-4
-returns-4 c = rw (fields_view, lt-leb _ 3 c.if4.true, and_false)
+returns-4 c = rw (fields_view, lt-leb _ 3 c.if4.true, and-false)
 
 returns-5 : tie.Need-returns-5
-returns-5 c = rw (fields_view, lt-leb _ 4 c.if5.true, and_false)
+returns-5 c = rw (fields_view, lt-leb _ 4 c.if5.true, and-false)
 
 returns-6 : tie.Need-returns-6
-returns-6 c = rw (fields_view, lt-leb _ 4 c.if6.true, and_false)
+returns-6 c = rw (fields_view, lt-leb _ 4 c.if6.true, and-false)
 
 small-requires : tie.Need-small-requires
 small-requires c κs = search rules
 
 returns-7 : tie.Need-returns-7
-returns-7 c = rw (fields_view, sym c.before.small.ensures ∙ not-true _ c.if7.true, and_false)
+returns-7 c = rw (fields_view, sym c.before.small.ensures ∙ not-true _ c.if7.true, and-false)
 
 small-requires-2 : tie.Need-small-requires-2
 small-requires-2 c κs = search rules
 
 returns-8 : tie.Need-returns-8
-returns-8 c = rw (fields_view, sym c.before.small2.ensures ∙ not-true _ c.if8.true, and_false)
+returns-8 c = rw (fields_view, sym c.before.small2.ensures ∙ not-true _ c.if8.true, and-false)
 
 cast-result : tie.Need-overflow-cast-result
 cast-result c = search rules
