@@ -9,8 +9,8 @@ ghost use Rattle.sbr_grid.specs.Grid.{class_of};
 ghost use Rattle.case_io.specs.Counts.{CountsFirst};
 ghost use Rattle.case_io.specs.Layout.{bytes_number, bytes_grid};
 
-use libc::{STDIN_FILENO, STDOUT_FILENO};
 use sbr_grid::{FrameClass, Refusal, SbrGrid, TimeGrid};
+use std::io::Read;
 
 // Most entries of a table, and most samples, that a case hands in.
 pub const MAX_TABLE: usize = 255;
@@ -28,10 +28,40 @@ pub fn silence() -> [f64; MAX_SAMPLES]
     [0.0; MAX_SAMPLES]
 }
 
+// 65,536 bytes of 0. Lending the array needs its length.
+pub fn large_buffer() -> [u8; 65536]
+    ensures { 65536 ≡ length result }
+{
+    [0; 65536]
+}
+
+// Reads what is there, at least a byte where the input has not ended; 0 past its end, and where it can't be read.
+pub fn read_some(rt: &impl Input, buf: &mut [u8]) -> usize
+    ensures { CountsFirst result buf.new }
+{
+    rt.reader().read(buf).unwrap_or(0)
+}
+
+// Reads from the input until the range is full or the input ends; answers how many bytes it put at the range's front. An input that can't be read any
+// further counts as one that ends.
+pub fn read_full(rt: &impl Input, buf: &mut [u8]) -> usize
+    ensures { CountsFirst result buf.new }
+{
+    let mut done = 0;
+    while done < buf.len() {
+        let more = read_some(rt, &mut buf[done..]);
+        if more == 0 {
+            return done;
+        }
+        done += more;
+    }
+    done
+}
+
 // The next byte of the input; 0 past its end.
-pub fn next_byte() -> u8 {
+pub fn next_byte(rt: &impl Input) -> u8 {
     let mut byte = [0u8; 1];
-    io::read_full(STDIN_FILENO, &mut byte);
+    read_full(rt, &mut byte);
     byte[0]
 }
 
@@ -52,33 +82,33 @@ fn number_of(b: [u8; 8]) -> u64
 }
 
 // The number of the next `size` bytes, low byte first.
-pub fn next_number(size: usize) -> u64
+pub fn next_number(rt: &impl Input, size: usize) -> u64
     requires { size ≤ 8 }
 {
     let mut bytes = [0u8; 8];
-    io::read_full(STDIN_FILENO, &mut bytes[..size]);
+    read_full(rt, &mut bytes[..size]);
     number_of(bytes)
 }
 
 // The number of the next two bytes, or `most` where it is larger.
-pub fn next_count(most: usize) -> usize
+pub fn next_count(rt: &impl Input, most: usize) -> usize
     ensures { result ≤ most }
 {
-    let n = next_number(2) as usize;
+    let n = next_number(rt, 2) as usize;
     if n < most { n } else { most }
 }
 
 // The signed number of the next four bytes.
-pub fn next_signed() -> i32 {
-    let a = next_byte() as i32;
-    let b = next_byte() as i32;
-    let c = next_byte() as i32;
-    let d = next_byte() as i32;
+pub fn next_signed(rt: &impl Input) -> i32 {
+    let a = next_byte(rt) as i32;
+    let b = next_byte(rt) as i32;
+    let c = next_byte(rt) as i32;
+    let d = next_byte(rt) as i32;
     a | (b << 8) | (c << 16) | (d << 24)
 }
 
-pub fn next_flag() -> bool {
-    flag(next_byte())
+pub fn next_flag(rt: &impl Input) -> bool {
+    flag(next_byte(rt))
 }
 
 // The double of a bit pattern. Those above infinity's, less the sign, are NaN's.
@@ -92,27 +122,27 @@ fn double(bits: u64) -> f64
 }
 
 // Fills the start of a table, and answers how many entries it has.
-pub fn read_table(table: &mut [u8]) -> usize
+pub fn read_table(rt: &impl Input, table: &mut [u8]) -> usize
     requires { 255 ≤ length table.old }
     ensures { CountsFirst result table.new }
 {
-    let n = next_byte() as usize;
+    let n = next_byte(rt) as usize;
     for i in 0..n {
-        table[i] = next_byte();
+        table[i] = next_byte(rt);
     }
     n
 }
 
 // Sets the samples that are listed, and answers how many are handed in.
-pub fn read_samples(x: &mut [f64]) -> usize
+pub fn read_samples(rt: &impl Input, x: &mut [f64]) -> usize
     requires { 6500 ≤ length x.old }
     ensures { CountsFirst result x.new }
 {
-    let count = next_count(MAX_SAMPLES);
-    let listed = next_count(MAX_SAMPLES);
+    let count = next_count(rt, MAX_SAMPLES);
+    let listed = next_count(rt, MAX_SAMPLES);
     for _ in 0..listed {
-        let i = next_count(MAX_SAMPLES - 1);
-        x[i] = double(next_number(8));
+        let i = next_count(rt, MAX_SAMPLES - 1);
+        x[i] = double(next_number(rt, 8));
     }
     count
 }
@@ -156,91 +186,93 @@ fn grid_of(b: [u8; RECORD_SIZE]) -> SbrGrid
     }
 }
 
-pub fn read_grid() -> SbrGrid {
+pub fn read_grid(rt: &impl Input) -> SbrGrid {
     let mut bytes = [0u8; RECORD_SIZE];
-    io::read_full(STDIN_FILENO, &mut bytes);
+    read_full(rt, &mut bytes);
     grid_of(bytes)
 }
 
-pub fn print(text: &[u8]) {
-    io::write_all(STDOUT_FILENO, text);
+// What can't be written is passed over, here and below.
+pub fn print(rt: &impl Print, text: &[u8]) {
+    let _ = rt.write_all(text);
 }
 
 // A name and a number.
-pub fn print_field(name: &[u8], value: u64) {
-    print(name);
-    io::print_decimal(STDOUT_FILENO, value);
+pub fn print_field(rt: &impl Print, name: &[u8], value: u64) {
+    print(rt, name);
+    let _ = print!(rt; "{value}");
 }
 
-pub fn print_flag(name: &[u8], flag: bool) {
-    print(name);
+pub fn print_flag(rt: &impl Print, name: &[u8], flag: bool) {
+    print(rt, name);
     if flag {
-        print(b"1");
+        print(rt, b"1");
     } else {
-        print(b"0");
+        print(rt, b"0");
     }
 }
 
-pub fn print_class(class: FrameClass) {
+pub fn print_class(rt: &impl Print, class: FrameClass) {
     match class {
-        FrameClass::FixFix => print(b"FixFix"),
-        FrameClass::FixVar => print(b"FixVar"),
-        FrameClass::VarFix => print(b"VarFix"),
-        FrameClass::VarVar => print(b"VarVar"),
+        FrameClass::FixFix => print(rt, b"FixFix"),
+        FrameClass::FixVar => print(rt, b"FixVar"),
+        FrameClass::VarFix => print(rt, b"VarFix"),
+        FrameClass::VarVar => print(rt, b"VarVar"),
     }
 }
 
 // A letter for each of the envelopes.
-pub fn print_resolutions(freq_res: [bool; SbrGrid::MAX_NUM_ENV], num_env: usize) {
+pub fn print_resolutions(rt: &impl Print, freq_res: [bool; SbrGrid::MAX_NUM_ENV], num_env: usize) {
     for i in 0..SbrGrid::MAX_NUM_ENV {
         if i < num_env {
             if freq_res[i] {
-                print(b"H");
+                print(rt, b"H");
             } else {
-                print(b"L");
+                print(rt, b"L");
             }
         }
     }
 }
 
 // A name and the first `count` lengths.
-fn print_lengths(name: &[u8], lengths: [u8; SbrGrid::MAX_REL_BORD], count: usize) {
-    print(name);
+fn print_lengths(rt: &impl Print, name: &[u8], lengths: [u8; SbrGrid::MAX_REL_BORD], count: usize) {
+    print(rt, name);
     for i in 0..SbrGrid::MAX_REL_BORD {
         if i < count {
-            print_field(b" ", wide(lengths[i]));
+            print_field(rt, b" ", wide(lengths[i]));
         }
     }
 }
 
-pub fn print_grid(grid: SbrGrid) {
+pub fn print_grid(rt: &impl Print, grid: SbrGrid) {
     let class = grid.frame_class;
     let freq_res = grid.freq_res;
     let rel_bord_0 = grid.rel_bord_0;
     let rel_bord_1 = grid.rel_bord_1;
-    print_class(class);
-    print(b" ");
-    print_resolutions(freq_res, grid.num_env);
-    print_field(b" b0 ", grid.var_bord_0 as u64);
-    print_field(b" b1 ", grid.var_bord_1 as u64);
-    print_lengths(b" rel0", rel_bord_0, grid.num_rel_0);
-    print_lengths(b" rel1", rel_bord_1, grid.num_rel_1);
-    print_field(b" p ", grid.pointer as u64);
-    print_field(b" noise ", grid.num_noise as u64);
-    print_flag(b" amp ", grid.amp_res_override);
+    print_class(rt, class);
+    print(rt, b" ");
+    print_resolutions(rt, freq_res, grid.num_env);
+    print_field(rt, b" b0 ", grid.var_bord_0 as u64);
+    print_field(rt, b" b1 ", grid.var_bord_1 as u64);
+    print_lengths(rt, b" rel0", rel_bord_0, grid.num_rel_0);
+    print_lengths(rt, b" rel1", rel_bord_1, grid.num_rel_1);
+    print_field(rt, b" p ", grid.pointer as u64);
+    print_field(rt, b" noise ", grid.num_noise as u64);
+    print_flag(rt, b" amp ", grid.amp_res_override);
 }
 
-pub fn print_refusal(why: Refusal) {
-    print_field(b"refused ", why.number() as u64);
+pub fn print_refusal(rt: &impl Print, why: Refusal) {
+    print_field(rt, b"refused ", why.number() as u64);
 }
 
 // The bits of a double; a NaN has none of its own.
-pub fn print_double(x: f64) {
-    print(b" ");
+pub fn print_double(rt: &impl Print, x: f64) {
+    print(rt, b" ");
     if x == x {
-        io::print_hex(STDOUT_FILENO, f64::to_bits(x), 16);
+        let bits = f64::to_bits(x);
+        let _ = print!(rt; "{bits:016x}");
     } else {
-        print(b"nan");
+        print(rt, b"nan");
     }
 }
 
@@ -255,54 +287,55 @@ pub fn magnitude(n: i32) -> u64
 }
 
 // A name and a number that may be below 0.
-pub fn print_signed(name: &[u8], n: i32) {
-    print(name);
+pub fn print_signed(rt: &impl Print, name: &[u8], n: i32) {
+    print(rt, name);
     if n < 0 {
-        print(b"-");
+        print(rt, b"-");
     }
-    io::print_decimal(STDOUT_FILENO, magnitude(n));
+    let size = magnitude(n);
+    let _ = print!(rt; "{size}");
 }
 
 // A border after a blank.
-fn print_border(border: u32) {
-    print_field(b" ", border as u64);
+fn print_border(rt: &impl Print, border: u32) {
+    print_field(rt, b" ", border as u64);
 }
 
 // A frame's borders up to the one at `last`.
-fn print_borders(t_e: [u32; TimeGrid::MAX_BORDERS], last: usize) {
+fn print_borders(rt: &impl Print, t_e: [u32; TimeGrid::MAX_BORDERS], last: usize) {
     for i in 0..TimeGrid::MAX_BORDERS {
         if i <= last {
-            print_border(t_e[i]);
+            print_border(rt, t_e[i]);
         }
     }
 }
 
 // Its noise borders up to the one at `last`.
-fn print_noise(t_q: [u32; TimeGrid::MAX_NOISE_BORDERS], last: usize) {
+fn print_noise(rt: &impl Print, t_q: [u32; TimeGrid::MAX_NOISE_BORDERS], last: usize) {
     for i in 0..TimeGrid::MAX_NOISE_BORDERS {
         if i <= last {
-            print_border(t_q[i]);
+            print_border(rt, t_q[i]);
         }
     }
 }
 
 // A time grid: borders, noise borders, mark.
-pub fn print_times(time: TimeGrid) {
+pub fn print_times(rt: &impl Print, time: TimeGrid) {
     let t_e = time.t_e;
     let t_q = time.t_q;
-    print_borders(t_e, time.num_env);
-    print(b" /");
-    print_noise(t_q, time.num_noise);
-    print_signed(b" / ", time.l_a);
+    print_borders(rt, t_e, time.num_env);
+    print(rt, b" /");
+    print_noise(rt, t_q, time.num_noise);
+    print_signed(rt, b" / ", time.l_a);
 }
 
-fn print_byte(byte: u8) {
-    io::print_hex(STDOUT_FILENO, byte as u64, 2);
+fn print_byte(rt: &impl Print, byte: u8) {
+    let _ = print!(rt; "{byte:02x}");
 }
 
 // Every byte of a range.
-pub fn print_bytes(bytes: &[u8]) {
+pub fn print_bytes(rt: &impl Print, bytes: &[u8]) {
     for i in 0..bytes.len() {
-        print_byte(bytes[i]);
+        print_byte(rt, bytes[i]);
     }
 }
