@@ -36,7 +36,7 @@ pub fn large_buffer() -> [u8; 65536]
 }
 
 // Reads what is there, at least a byte where the input has not ended; 0 past its end, and where it can't be read.
-pub fn read_some(rt: &impl Input, buf: &mut [u8]) -> usize
+fn read_some(rt: &impl Input, buf: &mut [u8]) -> usize
     ensures { CountsFirst result buf.new }
 {
     rt.reader().read(buf).unwrap_or(0)
