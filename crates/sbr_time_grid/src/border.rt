@@ -29,6 +29,7 @@ pub fn less(a: u32, b: u32) -> u32
     if b <= a { a - b } else { 0 }
 }
 
+#[tactic(auto, unfolding(crate::specs::TimeGrid::abs_bord_lead))]
 fn abs_bord_lead(g: SbrGrid) -> u32
     ensures value { result ≡ abs_bord_lead (view_of g) }
     ensures upper_bound { result ≤ 255 }
@@ -40,6 +41,7 @@ fn abs_bord_lead(g: SbrGrid) -> u32
     }
 }
 
+#[tactic(auto, unfolding(crate::specs::TimeGrid::abs_bord_trail))]
 fn abs_bord_trail(g: SbrGrid, n: u32) -> u32
     requires { n ≤ 16 }
     ensures { result ≡ abs_bord_trail n (view_of g) }
@@ -51,6 +53,7 @@ fn abs_bord_trail(g: SbrGrid, n: u32) -> u32
     }
 }
 
+#[tactic(auto, unfolding(crate::specs::TimeGrid::n_rel_lead))]
 fn n_rel_lead(g: SbrGrid) -> usize
     requires { 0 < g.num_env }
     ensures { result ≡ n_rel_lead (view_of g) }
@@ -63,6 +66,7 @@ fn n_rel_lead(g: SbrGrid) -> usize
     }
 }
 
+#[tactic(auto, unfolding(crate::specs::TimeGrid::n_rel_trail))]
 fn n_rel_trail(g: SbrGrid) -> usize
     ensures { result ≡ n_rel_trail (view_of g) }
 {
@@ -93,6 +97,7 @@ pub fn counts_fit(g: SbrGrid) -> bool
 }
 
 // The border bytes that the class uses are at most 3.
+#[tactic(auto, unfolding(crate::specs::TimeGrid::borders_fit))]
 pub fn borders_fit(g: SbrGrid) -> bool
     ensures { result ≡ borders_fit (view_of g) }
 {

@@ -1,0 +1,15 @@
+use Rattle.std.proofs.Common.{◌≡◌, ℕ, ◌+◌, ◌*◌, ◌≤◌, List, length, get_or}
+use Rattle.sbr_grid.specs.declared.FrameClass.{FrameClass}
+use Rattle.sbr_grid.specs.Grid.{by_class}
+use Rattle.sbr_time_grid.specs.TimeGrid.{slots, slot_sum}
+use Rattle.sbr_time_grid.proofs.Filled.{Filled}
+use Rattle.sbr_time_grid.proofs.border.leading.Given as goal
+
+-- the slots of the leading lengths, as the loop has them
+abbrev pub lead : FrameClass → ℕ → List ℕ → ℕ → ℕ
+lead class step rel l = by_class class step 0 (slots (get_or rel l 0)) (slots (get_or rel l 0))
+
+abbrev pub invariant-loop-l : goal.invariant-loop-l
+invariant-loop-l l =
+    (l.b ≡ l.initial.b + slot_sum (lead l.class l.step l.rel) l.l) × (l.b ≤ 255 + 512 * l.l) × (length l.t ≡ 6)
+    × Filled (λ j. l.initial.b + slot_sum (lead l.class l.step l.rel) j) 0 l.l l.initial.t l.t
