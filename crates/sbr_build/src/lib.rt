@@ -9,7 +9,7 @@ ghost use Rattle.sbr_build.specs.Build.{length_list, lengths_of, pushed, raw, gr
 use sbr_grid::{FrameClass, SbrGrid};
 
 // The onset slots of a frame, the first `count` places.
-#[derive(Drop)]
+#[derive(Clone, Copy, Drop)]
 pub struct Onsets {
     pub count: usize,
     pub slot: [u32; Onsets::MAX_ONSETS],
@@ -21,13 +21,14 @@ impl Onsets {
 }
 
 // Lengths in slots, the first `count` places.
-#[derive(Drop)]
+#[derive(Clone, Copy, Drop)]
 pub struct Lengths {
     pub count: usize,
     pub slots: [u8; SbrGrid::MAX_REL_BORD],
 }
 
 impl Lengths {
+    #[tactic(auto, unfolding(crate::specs::Build::lengths_of))]
     pub fn none() -> Self
         ensures { (result ≡ lengths_of []) × (result.count ≡ 0) }
     {
@@ -38,6 +39,7 @@ impl Lengths {
     }
 
     // One more length behind the others.
+    #[tactic(auto, unfolding(crate::specs::Build::pushed))]
     pub fn push(self, len: u32) -> Self
         requires { (self.count < 4) × (len ≤ 255) }
         ensures { (result ≡ pushed self len) × (result.count ≡ self.count + 1) }
