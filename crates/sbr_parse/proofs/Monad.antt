@@ -40,18 +40,18 @@ Coded P w a u = P a × (u ≡ w a)
 
 -- where the first answers, the second goes on
 then_reads : {A B : Type 0} (m : Reader A) (f : A → Reader B) (bs : List Bool) {r : List Bool} {a : A} {x : Outcome (B × List Bool)}
-    → m bs ≡ answered (a, r) → f a r ≡ x → (m followedBy f) bs ≡ x
+    → m bs ≡ answered (a, r) → f a r ≡ x → (m followed_by f) bs ≡ x
 unfolding ◌followed_by◌
 then_reads m f bs e h = ap (onward f) e ∙ h
 
 -- where the first refuses, both do
-then_refuses : {A B : Type 0} (m : Reader A) (f : A → Reader B) (bs : List Bool) {e : Refusal} → m bs ≡ refused e → (m followedBy f) bs ≡ refused e
+then_refuses : {A B : Type 0} (m : Reader A) (f : A → Reader B) (bs : List Bool) {e : Refusal} → m bs ≡ refused e → (m followed_by f) bs ≡ refused e
 unfolding ◌followed_by◌
 then_refuses m f bs e = ap (onward f) e
 
 -- the bits of the first value, then those of the second
 pub back_then : {A B : Type 0} {m : Reader A} (f : A → Reader B) {a : A} {b : B} {u v : List Bool}
-    → Back m a u → Back (f a) b v → Back (m followedBy f) b (u ++ v)
+    → Back m a u → Back (f a) b v → Back (m followed_by f) b (u ++ v)
 back_then {m = m} f {u = u} {v = v} h k =
     record { reads = λ r. then_reads m f ((u ++ v) ++ r) (rw (append_assoc u v r) (h.reads (v ++ r))) (k.reads r) }
 
@@ -60,7 +60,7 @@ pub back_pure : {A : Type 0} (a : A) → Back (giving a) a []
 back_pure a = record { reads = λ r. refl }
 
 -- what is made of a value takes the bits of that value
-pub back_map : {A B : Type 0} {m : Reader A} (h : A → B) {a : A} {u : List Bool} → Back m a u → Back (m followedBy λ x. giving (h x)) (h a) u
+pub back_map : {A B : Type 0} {m : Reader A} (h : A → B) {a : A} {u : List Bool} → Back m a u → Back (m followed_by λ x. giving (h x)) (h a) u
 back_map h {a = a} {u = u} k = rw (append-nil u) at (back_then (λ x. giving (h x)) k (back_pure (h a)))
 
 -- the same three, at any list of bits
@@ -68,11 +68,11 @@ pub seen_pure : {A : Type 0} {P : A → List Bool → Type 0} (n : ℕ) (a : A) 
 seen_pure n a p bs = full a [] bs refl (omega arith) p (back_pure a)
 
 pub seen_then : {A B : Type 0} {P : A → Type 0} {w : A → List Bool} {k : ℕ} {m : Reader A} (f : A → Reader B) (Q : B → List Bool → Type 0)
-    (n : ℕ) → Reads k (Coded P w) m → k ≤ n → ((a : A) → P a → Reads (n - k) (λ b v. Q b (w a ++ v)) (f a)) → Reads n Q (m followedBy f)
+    (n : ℕ) → Reads k (Coded P w) m → k ≤ n → ((a : A) → P a → Reads (n - k) (λ b v. Q b (w a ++ v)) (f a)) → Reads n Q (m followed_by f)
 seen_then {A} {B} {P} {w} {k} {m} f Q n h j g bs = first (h bs)
   where
     second : (a : A) (u r : List Bool) → bs ≡ u ++ r → length u ≤ k → u ≡ w a → Back m a u
-        → Seen (n - k) (λ b v. Q b (w a ++ v)) (f a) r → Seen n Q (m followedBy f) bs
+        → Seen (n - k) (λ b v. Q b (w a ++ v)) (f a) r → Seen n Q (m followed_by f) bs
     second a u r e l c t (full b v s d i q z) =
         full b (u ++ v) s (rw (e, d, append_assoc u v s)) (omega (arith, length-append u v)) (rw c q) (back_then f t z)
     second a u r e l c t (none d q never) =
@@ -80,12 +80,12 @@ seen_then {A} {B} {P} {w} {k} {m} f Q n h j g bs = first (h bs)
         (λ i ys. then_reads m f (bs ++ ys) (rw (e, append_assoc u r ys) (t.reads (r ++ ys)))
         (never (omega (arith, length-append u r, ap length e)) ys))
 
-    first : Seen k (Coded P w) m bs → Seen n Q (m followedBy f) bs
+    first : Seen k (Coded P w) m bs → Seen n Q (m followed_by f) bs
     first (full a u r e l p t) = second a u r e l p.1 t (g a p.0 r)
     first (none e q never) = none e (then_refuses m f bs q) (λ i ys. then_refuses m f (bs ++ ys) (never (omega arith) ys))
 
 pub seen_map : {A B : Type 0} {P : A → Type 0} {w : A → List Bool} {k : ℕ} {m : Reader A} (h : A → B) (Q : B → List Bool → Type 0)
-    (n : ℕ) → Reads k (Coded P w) m → k ≤ n → ((a : A) → P a → Q (h a) (w a)) → Reads n Q (m followedBy λ x. giving (h x))
+    (n : ℕ) → Reads k (Coded P w) m → k ≤ n → ((a : A) → P a → Q (h a) (w a)) → Reads n Q (m followed_by λ x. giving (h x))
 seen_map {w = w} {k = k} h Q n g l q =
     seen_then (λ x. giving (h x)) Q n g l (λ a p. seen_pure (n - k) (h a) (rw (append-nil (w a)) (q a p)))
 

@@ -25,17 +25,17 @@ use Rattle.sbr_parse.proofs.ParseReads.{Short, Takes, then_reads, then_short, ta
 
 -- two numbers of two bits each, then what is read behind them
 pub pair_reads : {A : Type 0} (f : ℕ → ℕ → Reader A) (n m v : ℕ) → n ≡ 4 + m
-    → (field 2 followedBy λ a. field 2 followedBy f a) (bits_of n v) ≡ f (v / 2 ^ (m + 2) % 4) (v / 2 ^ m % 4) (bits_of m v)
+    → (field 2 followed_by λ a. field 2 followed_by f a) (bits_of n v) ≡ f (v / 2 ^ (m + 2) % 4) (v / 2 ^ m % 4) (bits_of m v)
 pair_reads f n m v e =
-    then_reads (λ a. field 2 followedBy f a) (takes_field 2) n (m + 2) v (omega arith)
+    then_reads (λ a. field 2 followed_by f a) (takes_field 2) n (m + 2) v (omega arith)
     ∙ then_reads (f (v / 2 ^ (m + 2) % 4)) (takes_field 2) (m + 2) m v (omega arith)
 
 -- too few bits for the two numbers and k bits behind them
-pub pair_short : {A : Type 0} (f : ℕ → ℕ → Reader A) (k : ℕ) → ((a b : ℕ) → Short k (f a b)) → Short (2 + (2 + k)) (field 2 followedBy λ a. field 2 followedBy f a)
-pair_short f k s = then_short (λ a. field 2 followedBy f a) (2 + k) (takes_field 2) (λ a. then_short (f a) k (takes_field 2) (s a))
+pub pair_short : {A : Type 0} (f : ℕ → ℕ → Reader A) (k : ℕ) → ((a b : ℕ) → Short k (f a b)) → Short (2 + (2 + k)) (field 2 followed_by λ a. field 2 followed_by f a)
+pair_short f k s = then_short (λ a. field 2 followed_by f a) (2 + k) (takes_field 2) (λ a. then_short (f a) k (takes_field 2) (s a))
 
 -- too few bits for the two numbers, whatever is read behind them
-pub pair_end : {A : Type 0} (f : ℕ → ℕ → Reader A) → Short 4 (field 2 followedBy λ a. field 2 followedBy f a)
+pub pair_end : {A : Type 0} (f : ℕ → ℕ → Reader A) → Short 4 (field 2 followed_by λ a. field 2 followed_by f a)
 pair_end f = pair_short f 0 (λ a b n v h. absurd (omega arith))
 
 -- ---- what stands behind the counts
@@ -149,13 +149,13 @@ unfolding fix_fix checked_count ◌followed_by◌
 fix-fix_count n m v e h = then_reads _ (takes_field 2) n m v e ∙ rw (lt-leb (v / 2 ^ m % 4) 2 (count_over (v / 2 ^ m % 4) h))
 
 -- the resolution of n envelopes
-fix-fix_takes : (n : ℕ) → Takes 1 (λ v. received FixFix (replicate n (bit_at v 0)) 0 0 [] [] 0) (flags 1 followedBy λ res. giving (received FixFix (replicate n (get_or res 0 false)) 0 0 [] [] 0))
+fix-fix_takes : (n : ℕ) → Takes 1 (λ v. received FixFix (replicate n (bit_at v 0)) 0 0 [] [] 0) (flags 1 followed_by λ res. giving (received FixFix (replicate n (get_or res 0 false)) 0 0 [] [] 0))
 unfolding bits_of
 fix-fix_takes n = takes_map (λ res. received FixFix (replicate n (get_or res 0 false)) 0 0 [] [] 0) (takes_flags 1)
 
 -- behind a count that a frame has
 fix-fix_counted : (n m v : ℕ) → n ≡ 2 + m → let t = v / 2 ^ m % 4 in 2 ^ t ≤ 5
-    → fix_fix (bits_of n v) ≡ (flags 1 followedBy λ res. giving (received FixFix (replicate (2 ^ t) (get_or res 0 false)) 0 0 [] [] 0)) (bits_of m v)
+    → fix_fix (bits_of n v) ≡ (flags 1 followed_by λ res. giving (received FixFix (replicate (2 ^ t) (get_or res 0 false)) 0 0 [] [] 0)) (bits_of m v)
 unfolding fix_fix checked_count ◌followed_by◌
 fix-fix_counted n m v e h = then_reads _ (takes_field 2) n m v e ∙ rw (le-leb (v / 2 ^ m % 4) 2 (count_fits (v / 2 ^ m % 4) h))
 

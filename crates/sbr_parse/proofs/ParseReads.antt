@@ -33,22 +33,22 @@ takes_pure a = record { reads = λ n m v e. rw (e, zero-add); short = λ n v h. 
 
 -- one reader after another where the first takes w bits
 pub then_reads : {A B : Type 0} {w : ℕ} {f : ℕ → A} {r : Reader A} (g : A → Reader B) → Takes w f r
-    → (n m v : ℕ) → n ≡ w + m → (r followedBy g) (bits_of n v) ≡ g (f (v / 2 ^ m)) (bits_of m v)
+    → (n m v : ℕ) → n ≡ w + m → (r followed_by g) (bits_of n v) ≡ g (f (v / 2 ^ m)) (bits_of m v)
 unfolding ◌followed_by◌
 then_reads g t n m v e = ap (onward g) (t.reads n m v e)
 
 -- too few bits for the first reader, or for the second after it
-pub then_short : {A B : Type 0} {w : ℕ} {f : ℕ → A} {r : Reader A} (g : A → Reader B) (k : ℕ) → Takes w f r → ((a : A) → Short k (g a)) → Short (w + k) (r followedBy g)
+pub then_short : {A B : Type 0} {w : ℕ} {f : ℕ → A} {r : Reader A} (g : A → Reader B) (k : ℕ) → Takes w f r → ((a : A) → Short k (g a)) → Short (w + k) (r followed_by g)
 unfolding ◌followed_by◌
 then_short {w = w} {r = r} g k t s n v h = go (dec_lt n w)
   where
-    go : Dec (n < w) → (r followedBy g) (bits_of n v) ≡ refused BitsEnd
+    go : Dec (n < w) → (r followed_by g) (bits_of n v) ≡ refused BitsEnd
     go (yes l) = ap (onward g) (t.short n v l)
     go (no l) = then_reads g t n (n - w) v (omega arith) ∙ s _ (n - w) v (omega arith)
 
 -- both take the sum of their widths
 pub takes_then : {A B : Type 0} {w k : ℕ} {f : ℕ → A} {h : A → ℕ → B} {r : Reader A} (g : A → Reader B) → Takes w f r → ((a : A) → Takes k (h a) (g a))
-    → Takes (w + k) (λ v. h (f (v / 2 ^ k)) v) (r followedBy g)
+    → Takes (w + k) (λ v. h (f (v / 2 ^ k)) v) (r followed_by g)
 takes_then {w = w} {k} {f} {h} {r} g t s = record {
   reads = λ n m v e. then_reads g t n (k + m) v (omega arith) ∙ (s _).reads (k + m) m v refl ∙ rw (shr-shr v m k, add_comm m k);
   short = then_short g k t (λ a. (s a).short);
@@ -76,7 +76,7 @@ unfolding field
 takes_field w = simp (num_low w) at (takes_bits w num_of)
 
 -- what is made of the value that a reader gives
-pub takes_map : {A B : Type 0} {w : ℕ} {f : ℕ → A} {r : Reader A} (h : A → B) → Takes w f r → Takes w (λ v. h (f v)) (r followedBy λ a. giving (h a))
+pub takes_map : {A B : Type 0} {w : ℕ} {f : ℕ → A} {r : Reader A} (h : A → B) → Takes w f r → Takes w (λ v. h (f v)) (r followed_by λ a. giving (h a))
 unfolding ◌followed_by◌
 takes_map h t = record {
   reads = λ n m v e. then_reads (λ a. giving (h a)) t n m v e;
@@ -89,4 +89,4 @@ unfolding rel_bords twos_of
 takes_lengths zero = takes_pure []
 takes_lengths (suc k) =
     let e : 2 * suc k ≡ 2 + 2 * k = omega arith in
-    rw e (takes_then (λ r. rel_bords k followedBy λ rs. giving (r ∷ rs)) (takes_field 2) (λ r. takes_map (λ rs. r ∷ rs) (takes_lengths k)))
+    rw e (takes_then (λ r. rel_bords k followed_by λ rs. giving (r ∷ rs)) (takes_field 2) (λ r. takes_map (λ rs. r ∷ rs) (takes_lengths k)))

@@ -20,7 +20,7 @@ onward f (refused e) = refused e
 
 -- one reader after another, which is given what the first read
 unfoldable pub ◌followed_by◌ : {A B : Type 0} → Reader A → (A → Reader B) → Reader B
-m followedBy f = λ bs. onward f (m bs)
+m followed_by f = λ bs. onward f (m bs)
 
 -- a value that takes no bits
 abbrev pub giving : {A : Type 0} → A → Reader A
@@ -38,8 +38,8 @@ field w bs = unless (leb w (length bs)) BitsEnd (answered (num_of (take w bs), d
 unfoldable pub rel_bords : ℕ → Reader (List ℕ)
 rel_bords zero = giving []
 rel_bords (suc k) =
-    field 2 followedBy λ r.
-    rel_bords k followedBy λ rs.
+    field 2 followed_by λ r.
+    rel_bords k followed_by λ rs.
     giving (r ∷ rs)
 
 -- the envelope count is one that a frame has
@@ -54,9 +54,9 @@ received c res b0 b1 rel0 rel1 p =
 -- FIXFIX: the count of envelopes as a power of 2, and one resolution for all
 unfoldable pub fix_fix : Reader Grid
 fix_fix =
-    field 2 followedBy λ tmp.
-    checked_count (leb tmp 2) (2 ^ tmp) followedBy λ n.
-    flags 1 followedBy λ res.
+    field 2 followed_by λ tmp.
+    checked_count (leb tmp 2) (2 ^ tmp) followed_by λ n.
+    flags 1 followed_by λ res.
     giving (received FixFix (replicate n (get_or res 0 false)) 0 0 [] [] 0)
 
 -- bs_freq_res in the order of the envelopes: in Table 4.69 FIXVAR sends the last envelope's resolution first
@@ -66,38 +66,38 @@ ordered c res = cond (by_class c false true false false) (reverse res) res
 -- ISO/IEC 14496-3, Table 4.69: what follows the counts is the same in the three classes: leading lengths, trailing lengths, bs_pointer, bs_freq_res
 unfoldable pub behind_counts : FrameClass → ℕ → ℕ → ℕ → ℕ → Reader Grid
 behind_counts c b0 b1 j k =
-    rel_bords j followedBy λ rel0.
-    rel_bords k followedBy λ rel1.
-    field (ptr_bits (j + k + 1)) followedBy λ p.
-    flags (j + k + 1) followedBy λ res.
+    rel_bords j followed_by λ rel0.
+    rel_bords k followed_by λ rel1.
+    field (ptr_bits (j + k + 1)) followed_by λ p.
+    flags (j + k + 1) followed_by λ res.
     giving (received c (ordered c res) b0 b1 rel0 rel1 p)
 
 -- FIXVAR: the border and the count of the trailing side, then what follows the counts
 unfoldable pub fix_var : Reader Grid
 fix_var =
-    field 2 followedBy λ b1.
-    field 2 followedBy λ k.
+    field 2 followed_by λ b1.
+    field 2 followed_by λ k.
     behind_counts FixVar 0 b1 0 k
 
 -- VARFIX: the border and the count of the leading side, then the same
 unfoldable pub var_fix : Reader Grid
 var_fix =
-    field 2 followedBy λ b0.
-    field 2 followedBy λ k.
+    field 2 followed_by λ b0.
+    field 2 followed_by λ k.
     behind_counts VarFix b0 0 k 0
 
 -- VARVAR: both borders, both counts, which a frame must have room for, then the same
 unfoldable pub var_var : Reader Grid
 var_var =
-    field 2 followedBy λ b0.
-    field 2 followedBy λ b1.
-    field 2 followedBy λ j.
-    field 2 followedBy λ k.
-    checked_count (leb (j + k + 1) 5) (j + k + 1) followedBy λ _.
+    field 2 followed_by λ b0.
+    field 2 followed_by λ b1.
+    field 2 followed_by λ j.
+    field 2 followed_by λ k.
+    checked_count (leb (j + k + 1) 5) (j + k + 1) followed_by λ _.
     behind_counts VarVar b0 b1 j k
 
 -- sbr_grid(): bs_frame_class, then the fields of that class
 unfoldable pub sbr_grid : Reader Grid
 sbr_grid =
-    field 2 followedBy λ c.
+    field 2 followed_by λ c.
     by_class (class_of c) fix_fix fix_var var_fix var_var

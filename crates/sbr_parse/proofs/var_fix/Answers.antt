@@ -1,0 +1,18 @@
+-- `sbr_parse::var_fix` meets its contract.
+use native.Mathlib.Omega.{arith}
+use Rattle.sbr_grid.specs.declared.FrameClass.TheVariants.{VarFix}
+use Rattle.sbr_parse.specs.Syntax.{behind_counts, var_fix}
+use Rattle.sbr_parse.proofs.ParseLaws.{pair_reads, pair_end}
+use Rattle.sbr_parse.proofs.var_fix.Goals as goal
+
+pub returns-then-body-lt4 : goal.returns-then-body-lt4
+unfolding var_fix
+returns-then-body-lt4 c = let a = c.args.body in rw (pair_end (λ b k. behind_counts VarFix b 0 k 0) a.width a.value (omega arith)) c.refusal.ensures
+
+pub returns : goal.returns
+unfolding var_fix
+returns c =
+    let a = c.args.body in
+    let p = c.pair-side in
+    rw (pair_reads (λ b k. behind_counts VarFix b 0 k 0) a.width p.result.rest.width a.value (omega (arith, p.ensures.width)))
+    (rw (p.ensures.first, p.ensures.second, p.ensures.value) at c.behind_counts.ensures)
