@@ -16,7 +16,7 @@ pub enum Placed {
 }
 
 // Bits as a number: the `width` low bits of `value`.
-#[derive(Drop)]
+#[derive(Clone, Copy, Drop)]
 pub struct Window {
     pub value: u32,
     pub width: u32,
