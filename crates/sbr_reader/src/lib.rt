@@ -9,7 +9,7 @@ ghost use Rattle.sbr_reader.specs.Read.{starting, left_by, read_grid, frame_read
 use sbr_grid::{Answer, Refusal, SbrGrid, TimeGrid};
 
 // What a transmitter and a receiver carry from frame to frame.
-#[derive(Drop)]
+#[derive(Clone, Copy, Drop)]
 pub struct Carried {
     // The carried border: the last border of the frame before.
     pub border: i32,
