@@ -2,7 +2,7 @@
  * The SBR time grid for a C host: electing a frame's grid from its samples, its envelopes' energies and their quantised values, reading
  * and writing sbr_grid() (ISO/IEC 14496-3, Table 4.69), its time grid (4.6.18.3.3), and the grid for borders that are named.
  *
- * Link with the static library that `rt staticlib sbr_c` makes (target/staticlib/libsbr_c.a).
+ * Link with the static library that `tools/build library` makes (target/staticlib/libsbr_c.a).
  *
  * Every call answers 0 for a full result, or the number of a refusal (SBR_REFUSED_..). A refused call leaves everything that was
  * lent to it as it was. Any number may be handed in (border bytes and pointers are bytes: C cuts a larger number before the call
