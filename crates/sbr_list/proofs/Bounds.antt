@@ -2,7 +2,7 @@
 use mathlib.Core.Path.{◌≡◌}
 use mathlib.Core.Bool.{true, and-eq-true_iff}
 use mathlib.Core.List.{List, [], ◌∷◌}
-use Prim.Native.Nat.{ℕ, zero, suc, ◌+◌, ◌-◌, ◌≤◌, ◌<◌}
+use Prim.Native.Nat.{ℕ, zero, suc, ◌+◌, ◌≤◌, ◌<◌}
 use native.Mathlib.Nat.{zero-add}
 use native.Mathlib.Omega.{arith}
 use native.Mathlib.Decide.{dec_le}
@@ -13,7 +13,7 @@ use lib.Signed.{mag}
 use Rattle.sbr_grid.specs.Refusals.{answered}
 use Rattle.sbr_grid.specs.Grid.{Grid, num_env_of}
 use Rattle.sbr_grid.specs.Times.{Times}
-use Rattle.sbr_time_grid.specs.TimeGrid.{by_pointer, t_e_of, t_q_of, l_a_of, noise_fits, middle_border, list_from, times, time_grid}
+use Rattle.sbr_time_grid.specs.TimeGrid.{by_pointer, t_e_of, t_q_of, l_a_of, noise_fits, middle_border, list_from, time_grid}
 use Rattle.sbr_time_grid.proofs.Laws.{each_class}
 use Rattle.sbr_time_grid.proofs.Borders.{length-list_from, get_or-list_from}
 use Rattle.sbr_time_grid.proofs.Rises.{rises_gap}

@@ -12,7 +12,7 @@ use Rattle.sbr_grid.specs.declared.Answer.TheVariants.{Given, Refused}
 use Rattle.sbr_grid.specs.declared.Refusal.{Refusal}
 use Rattle.sbr_grid.specs.declared.Refusal.TheVariants.{BitsEnd}
 use Rattle.sbr_grid.specs.Refusals.{Outcome, answered, refused, answer_of}
-use Rattle.sbr_grid.specs.Grid.{first, record_of}
+use Rattle.sbr_grid.specs.Grid.{record_of}
 use Rattle.sbr_grid.proofs.Laws.{view_record}
 use Rattle.sbr_grid.proofs.First.{first-first}
 use Rattle.sbr_grid.specs.Times.{time_record}
