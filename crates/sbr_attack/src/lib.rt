@@ -11,25 +11,25 @@ ghost use Rattle.sbr_attack.specs.Attack.{even_segments, aligned_attack, late_at
 use sbr_build::Lengths;
 use sbr_grid::{FrameClass, SbrGrid};
 
-#[derive(Drop)]
+#[derive(Clone, Copy, Drop)]
 pub enum LateAttack {
     Late,
     NotLate,
 }
 
-#[derive(Drop)]
+#[derive(Clone, Copy, Drop)]
 pub struct LateGrid {
     pub answer: LateAttack,
     pub grid: SbrGrid,
 }
 
-#[derive(Drop)]
+#[derive(Clone, Copy, Drop)]
 pub enum DoubleAttack {
     Double,
     NotDouble,
 }
 
-#[derive(Drop)]
+#[derive(Clone, Copy, Drop)]
 pub struct DoubleGrid {
     pub answer: DoubleAttack,
     pub grid: SbrGrid,
@@ -259,6 +259,7 @@ fn varfix_grid(s: u32, lead: u32, nts: u32) -> SbrGrid
 }
 
 // One onset: FixVar where the frame begins at 0, VarFix from a lead.
+#[tactic(auto, unfolding(crate::specs::Attack::variable_grid))]
 pub fn variable_grid(s: u32, lead: u32, nts: u32) -> SbrGrid
     requires { (4 ≤ s) × (s < nts) × FrameBounds nts lead }
     ensures { result ≡ record_of (variable_grid s lead nts) }
