@@ -1,5 +1,4 @@
 use Rattle.std.proofs.Common.{arith}
-use Rattle.std.proofs.lemmas.Grind.{common_steps}
 use Rattle.std.proofs.lemmas.Bool.Decides.{nat_tests}
 use lib.ListN.{length-replicate, length-map}
 use Rattle.sbr_build.specs.Build.{length_list, raw}
@@ -21,4 +20,4 @@ returns c =
       lengths_count a.rel_0,
       lengths_count a.rel_1,
     )
-    (grind (arith, common_steps, nat_tests))
+    (grind (arith, nat_tests))
