@@ -1,7 +1,7 @@
 -- Some record of a shape has given borders, resolutions and mark exactly where the candidate of that shape passes the test; and where one has them with
 -- any mark, one of the same class and shape has them with none.
 use mathlib.Core.Path.{◌≡◌, refl, ap, ◌∙◌}
-use mathlib.Core.Bool.{Bool, true, false, false≢true}
+use mathlib.Core.Bool.{Bool, true, false≢true}
 use mathlib.Core.List.{List, [], ◌∷◌}
 use mathlib.Core.Logic.{◌↔◌}
 use Prim.Native.Nat.{ℕ, ◌≤◌}
