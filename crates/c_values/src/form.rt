@@ -8,7 +8,7 @@ use sbr_grid::{FrameClass, SbrGrid};
 const MAX_FLAG: u8 = 1;
 
 // The numbers of a record as C hands them in. Class and counts are wider than a record needs: nothing is cut before its test.
-#[derive(Drop)]
+#[derive(Clone, Copy)]
 pub struct Handed {
     pub frame_class: u32,
     pub num_env: u64,
@@ -116,7 +116,7 @@ fn record(h: Handed, freq_res: &[u8], rel_bord_0: &[u8], rel_bord_1: &[u8]) -> S
 }
 
 // The record, or the empty one where none can be formed.
-#[derive(Drop)]
+#[derive(Clone, Copy)]
 pub struct Formed {
     pub is_formed: bool,
     pub grid: SbrGrid,
