@@ -13,6 +13,7 @@ returns-then-not-writable c =
 
 pub returns-in-To : goal.returns-in-To
 returns-in-To c =
+    -- past the test the record can be written
     let passes : writable (view_of c.args.grid) ≡ true = sym c.writable.ensures ∙ c.if-not-writable.false in
     let told : let a = c.args in Writes a.buf.now a.pos (view_of a.grid) (answer c.put_bits.result) c.put_bits.new.buf = (let a = c.args in put a.buf.now a.pos (view_of a.grid) c.grid_bits-bits.result c.put_bits.result c.put_bits.new.buf passes c.grid_bits-bits.ensures c.put_bits.ensures.answer c.put_bits.ensures.bytes) in
     rw c.in-To.is at told

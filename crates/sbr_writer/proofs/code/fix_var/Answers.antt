@@ -14,6 +14,7 @@ use Rattle.sbr_writer.proofs.code.fix_var.Goals as goal
 
 pub one_side-side-requires : goal.one_side-side-requires
 one_side-side-requires c =
+    -- what the record's tests say
     let fields : Told c.args.g = told c.args.g c.requires.1 in
     let counts : (c.args.g.num_rel_1 + 1 ≡ c.args.g.num_env) × (c.args.g.num_env ≤ 4) = one_told _ _ (sym (fix-var_view c.args.g) ∙ c.requires.2) in
     let f = fields in (

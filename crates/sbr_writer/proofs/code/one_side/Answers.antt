@@ -11,6 +11,7 @@ use Rattle.sbr_writer.proofs.code.one_side.Goals as goal
 
 pub push-counted-requires : goal.push-counted-requires
 push-counted-requires c =
+    -- past the border byte there is room for the rest
     let after1 : Space c.push-sent.result 11 = space_field 2 c.args.bord c.requires.0 c.push-sent.ensures (omega arith) in
     (narrow after1 (omega arith), omega (arith, c.requires.2))
 

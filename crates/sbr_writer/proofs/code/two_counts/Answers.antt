@@ -6,6 +6,7 @@ use Rattle.sbr_writer.proofs.code.two_counts.Goals as goal
 
 pub push-both-requires : goal.push-both-requires
 push-both-requires c =
+    -- room for what follows
     let after1 : Space c.push-first.result 6 = space_field 2 c.args.bord_0 c.requires.0 c.push-first.ensures (omega arith) in
     (narrow after1 (omega arith), omega (arith, c.requires.2))
 

@@ -17,6 +17,7 @@ use Rattle.sbr_writer.proofs.code.var_var.Goals as goal
 
 pub two_counts-counted-requires : goal.two_counts-counted-requires
 two_counts-counted-requires c =
+    -- what the record's tests say
     let fields : Told c.args.g = told c.args.g c.requires.1 in
     let counts : let g = c.args.g in (g.num_rel_0 + g.num_rel_1 + 1 ≡ g.num_env) × (g.num_rel_0 ≤ 3) × (g.num_rel_1 ≤ 3) = two_told _ _ _ (sym (var-var_view c.args.g) ∙ c.requires.2) in
     let f = fields in
@@ -26,6 +27,7 @@ pub push_rel-leading-requires : goal.push_rel-leading-requires
 push_rel-leading-requires c =
     let fields : Told c.args.g = told c.args.g c.requires.1 in
     let counts : let g = c.args.g in (g.num_rel_0 + g.num_rel_1 + 1 ≡ g.num_env) × (g.num_rel_0 ≤ 3) × (g.num_rel_1 ≤ 3) = two_told _ _ _ (sym (var-var_view c.args.g) ∙ c.requires.2) in
+    -- the room that is left after the counts, after each list, and after the pointer
     let space1 : Space c.two_counts-counted.result 16 = let g = c.args.g in space_then c.requires.0 c.two_counts-counted.ensures (simp (length-append, length-bits_of) (omega arith)) in
     (narrow space1 (omega (arith, counts.1)), fields.numbers.rel0, fields.small0)
 

@@ -31,6 +31,7 @@ returns-then-not-small-2 c = rw (fields_view, sym c.small-2.ensures ∙ c.if-not
 
 pub returns : goal.returns
 returns c =
+    -- past the tests of the numbers
     let numbers : Numbers c.args.g = record { some = omega arith; most = omega arith; bord_0 = omega arith; bord_1 = omega arith; rel0 = omega arith; rel1 = omega arith } in
     fields_pass _ numbers (sym c.small.ensures ∙ c.if-not-small.false)
     (sym c.small-2.ensures ∙ c.if-not-small-2.false)
