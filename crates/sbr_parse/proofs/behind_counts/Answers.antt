@@ -11,7 +11,9 @@ use Rattle.sbr_parse.proofs.behind_counts.Goals as goal
 
 pub overflow_add-j-2 : goal.overflow_add-j-2
 overflow_add-j-2 c =
+    -- the pointer's width is the standard's
     let width : let a = c.args in c.ptr_bits-p.result ≡ ptr_bits (a.j + a.k + 1) = c.ptr_bits-p.ensures ∙ width_ptr _ (omega arith) (omega arith) in
+    -- it has at most three bits
     let narrow : c.ptr_bits-p.result ≤ 3 = rw width (pointer_narrow _ (omega arith)) in
     omega (arith, narrow)
 

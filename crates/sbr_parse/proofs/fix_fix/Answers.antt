@@ -12,6 +12,7 @@ returns-then-body-lt2 c = let a = c.args.body in rw (fix-fix_short a.width a.val
 
 pub returns-then-num_env-gt-MAX_NUM_ENV : goal.returns-then-num_env-gt-MAX_NUM_ENV
 returns-then-num_env-gt-MAX_NUM_ENV c =
+    -- the count of envelopes is a power of 2
     let count : let a = c.args.body in 1 * 2 ^ c.two_bits.result % 2 ^ 64 ≡ 2 ^ (a.value / 2 ^ (a.width - 2) % 4) = shl_exact {a = 1} 1 c.two_bits.result 64 (omega arith) (omega (arith, c.two_bits.ensures)) ∙ rw (one-mul, c.two_bits.ensures) in
     let a = c.args.body in
     rw (fix-fix_count a.width (a.width - 2) a.value (omega arith) (omega (arith, count))) c.refusal-then-num_env-gt-MAX_NUM_ENV.ensures

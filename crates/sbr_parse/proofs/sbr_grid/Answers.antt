@@ -14,6 +14,7 @@ returns-then-bits-lt2 c = let a = c.args.bits in rw (grid_short a.width a.value 
 
 pub returns-in-FixFix : goal.returns-in-FixFix
 returns-in-FixFix c =
+    -- the class decides what is read behind it
     let body : let a = c.args.bits in sbr_grid (bits_of a.width a.value) ≡ by_class c.from_bits-class.result fix_fix fix_var var_fix var_var (bits_of (a.width - 2) a.value) = (let a = c.args.bits in grid_reads a.width (a.width - 2) a.value (omega arith) ∙ rw (c.from_bits-class.ensures, c.two_bits.ensures, mod-mod)) in
     rw (body, c.in-FixFix.is) c.fix_fix.ensures
 

@@ -10,6 +10,7 @@ returns-then-body-lt8 c = let a = c.args.body in rw (var-var_short a.width a.val
 
 pub returns-then-j-k-gt-MAX_NUM_ENV : goal.returns-then-j-k-gt-MAX_NUM_ENV
 returns-then-j-k-gt-MAX_NUM_ENV c =
+    -- the counts, as digits of the number that was handed in
     let first : let a = c.args.body in c.pair-counts.result.first ≡ a.value / 2 ^ (c.pair-counts.result.rest.width + 2) % 4 = rw (← c.pair-borders.ensures.value) c.pair-counts.ensures.first in
     let second : let a = c.args.body in c.pair-counts.result.second ≡ a.value / 2 ^ c.pair-counts.result.rest.width % 4 = rw (← c.pair-borders.ensures.value) c.pair-counts.ensures.second in
     let q = c.pair-borders in
