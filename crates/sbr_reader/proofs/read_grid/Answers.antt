@@ -39,6 +39,7 @@ outcome l q w p e h = h ∙ ap (λ (v : Window). parsed_of (sbr_grid (window_bit
 record Got (l : List ℕ) (q n : ℕ) (w : Window) (p : Parsed) : Type 0 where
   grid : Grid
   rest : List Bool
+  -- past the first test the slot count is one of the two
   slots : is_slot_count n ≡ true
   seen : w ≡ window_of l q
   syntax : sbr_grid (window_bits (window_of l q)) ≡ answered (grid, rest)
