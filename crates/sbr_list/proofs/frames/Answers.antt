@@ -19,6 +19,7 @@ returns-in-Refused-clause-text c =
 
 pub frame_line-requires : goal.frame_line-requires
 frame_line-requires c =
+    -- the reading answers
     let given : let u = c.loop-i in Read c.args.bits.now u.position c.args.slots u.carried c.read_grid-reading.result u.i =
     read_given _ _ _ _ _ _ c.read_grid-reading.ensures c.in_default.is (omega (arith, c.loop-i-test.true, c.requires.few)) in
     shown-short _ _ _ _ _ _ given
