@@ -1,3 +1,4 @@
+-- `sbr_named::are_borders` meets its contract.
 use mathlib.Core.Path.{◌≡◌, sym, ap, ◌∙◌}
 use lib.ListN.{length, get_or}
 use mir.Syntax.{w32}

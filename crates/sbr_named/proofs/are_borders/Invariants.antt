@@ -7,7 +7,6 @@ use Rattle.sbr_writer.specs.Write.{every}
 use Rattle.sbr_named.specs.Code.{is_border}
 use Rattle.sbr_named.proofs.are_borders.Given as goal
 
--- `sbr_named::are_borders` meets its contract.
 abbrev pub invariant-loop-i : goal.invariant-loop-i
 invariant-loop-i l = (l.i ≤ l.i-end) × (every is_border (drop l.i (first (pos 0) l.i-end l.borders)) ≡ every is_border l.borders)
 

@@ -1,3 +1,4 @@
+-- `sbr_named::border_at` meets its contract.
 use Rattle.std.proofs.Common.{pos, get_or}
 use Rattle.sbr_named.proofs.Signed.{border_at}
 use mir.Syntax.{w32}

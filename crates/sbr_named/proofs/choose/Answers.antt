@@ -1,3 +1,4 @@
+-- `sbr_named::choose` meets its contract.
 use Rattle.std.proofs.Common.{◌≡◌, false, sym, ◌∙◌, arith, w32}
 use mir.ValLaws.{to_z-of_z}
 use Rattle.sbr_grid.specs.Grid.{record_of}

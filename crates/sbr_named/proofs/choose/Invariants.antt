@@ -4,7 +4,6 @@ use Rattle.sbr_named.specs.Shapes.{first_from}
 use Rattle.sbr_named.proofs.Tried.{passes}
 use Rattle.sbr_named.proofs.choose.Given as goal
 
--- `sbr_named::choose` meets its contract.
 abbrev pub invariant-loop-k : goal.invariant-loop-k
 invariant-loop-k l = (l.k ≤ 7) × (first_from (passes l.n l.t l.res l.le l.l_a) l.k (7 - l.k) ≡ first_from (passes l.n l.t l.res l.le l.l_a) 0 7)
 

@@ -1,3 +1,4 @@
+-- `sbr_named::grid_for_borders` meets its contract.
 use mathlib.Core.Path.{◌≡◌, refl, sym, ◌∙◌}
 use mathlib.Core.Bool.{true, false≢true}
 use lib.ListN.{length}
@@ -17,7 +18,6 @@ use native.Mathlib.Omega.{arith}
 use Rattle.sbr_named.proofs.grid_for_borders.Goals as goal
 use Rattle.sbr_named.proofs.grid_for_borders.Goals.{After-is_within, Else-not-are_borders, Else-not-is_slot_count}
 
--- `sbr_named::grid_for_borders` meets its contract.
 -- the slot count is one
 slots : (c : Else-not-is_slot_count) → is_slot_count c.args.num_time_slots ≡ true
 slots c = sym c.is_slot_count.ensures ∙ c.if-not-is_slot_count.false

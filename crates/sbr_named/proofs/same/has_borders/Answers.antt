@@ -1,3 +1,4 @@
+-- `sbr_named::same::has_borders` meets its contract.
 use Rattle.std.proofs.Common.{◌≡◌, true, sym, ap, ◌∙◌, ℕ, ◌+◌, w32}
 use mir.ValLaws.{to_z-of_z}
 use Rattle.sbr_grid.specs.declared.Answer.TheVariants.{Given}

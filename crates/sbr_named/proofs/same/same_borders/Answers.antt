@@ -1,3 +1,4 @@
+-- `sbr_named::same::same_borders` meets its contract.
 use mathlib.Core.Path.{sym, ◌∙◌}
 use borrow.Author.Tests.{eq-eqb, ne_eqb}
 use Rattle.sbr_named.proofs.Compared.{same_next, same-done}

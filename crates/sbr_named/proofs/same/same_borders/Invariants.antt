@@ -5,7 +5,6 @@ use Rattle.sbr_grid.specs.Grid.{first}
 use Rattle.sbr_named.specs.Shapes.{same_list}
 use Rattle.sbr_named.proofs.same.same_borders.Given as goal
 
--- `sbr_named::same::same_borders` meets its contract.
 abbrev pub invariant-loop-i : goal.invariant-loop-i
 invariant-loop-i l = (l.i ≤ l.count) × (length l.a ≡ 6) × (length l.b ≡ 6) × (same_list (drop l.i (first 0 l.count l.a)) (drop l.i (first 0 l.count l.b)) ≡ same_list (first 0 l.count l.a) (first 0 l.count l.b))
 

@@ -1,3 +1,4 @@
+-- `sbr_named::shape::candidate` meets its contract.
 use mir.Syntax.{w32}
 use mir.ValLaws.{to_z-of_z}
 use Rattle.sbr_named.proofs.Stored.{candidate-record}

@@ -1,3 +1,4 @@
+-- `sbr_named::shape::lead_at` meets its contract.
 use mathlib.Core.Path.{◌∙◌, sym}
 use Rattle.sbr_named.specs.Shapes.{leading}
 use Rattle.sbr_named.proofs.Shapes.{listed}

@@ -1,3 +1,4 @@
+-- `sbr_named::shape::pointer_for` meets its contract.
 use mathlib.Core.Path.{◌≡◌}
 use Prim.Native.Nat.{◌+◌, ◌-◌}
 use lib.IntN.{nat_abs}

@@ -1,3 +1,4 @@
+-- `sbr_named::shape::trail_at` meets its contract.
 use mathlib.Core.Path.{◌∙◌, sym}
 use Rattle.sbr_named.specs.Shapes.{trailing}
 use Rattle.sbr_named.proofs.Shapes.{listed}
