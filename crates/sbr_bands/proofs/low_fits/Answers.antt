@@ -31,7 +31,9 @@ returns-then-not-is_climbing c =
 pub is_drawn-requires : goal.is_drawn-requires
 is_drawn-requires c =
     let a = c.args in
+    -- the high table
     let known = high_table _ c.requires in
+    -- the low table climbs
     let climbing : climbs a.low.now ≡ true = sym c.is_climbing.ensures ∙ c.if-not-is_climbing.false in
     (known.by64, (low_table a.high.now a.low.now known (omega arith) climbing (omega arith)).by64)
 
@@ -39,6 +41,7 @@ pub returns : goal.returns
 unfolding low_fits
 returns c =
     let a = c.args in
+    -- the low table climbs
     let climbing : climbs a.low.now ≡ true = sym c.is_climbing.ensures ∙ c.if-not-is_climbing.false in
     rw (
       le-leb 1 (length a.low.now) (omega arith),
