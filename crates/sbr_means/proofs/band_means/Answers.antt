@@ -29,6 +29,7 @@ loop-j-preserved-then-table-i c =
     let kl : ℕ = entry a.table.now m in
     let w : ℕ = entry a.table.now (m + 1) - kl in
     let first : kl + w ≡ entry a.table.now (m + 1) = omega (arith, band a.table.now a.i a.k l.j c.requires.0 (omega arith)) in
+    -- where the next band is summed beside this one, it is as wide
     let beside : kl + w + w ≡ entry a.table.now (m + 2) = omega arith in
     let sums = c.pair_of-sums.ensures in
     let more = mean-more (columns a.x.now) a.table.now a.i a.k a.t0 a.t1 a.at a.out.now in (
