@@ -18,13 +18,16 @@ failed a b d v e t = rw (sym e ∙ t, t)
 pub returns-then-now-peak : goal.returns-then-now-peak
 returns-then-now-peak c =
     let a = c.args in
+    -- the energy of the slot
     let now : Float = energy_at a.e.now a.s in
     let one : Bool = Ieee.lt (Ieee.add binary64 (Ieee.mul binary64 eight c.min-before.result) nano) now in
     let two : Bool = Ieee.lt (Ieee.mul binary64 tenth a.peak) now in
+    -- the first two of the tests
     let both : c.if-now-before.value ≡ (one && two) = elim c.if-now-before.branch [
       | then-now-before w ↦ w.value-is ∙ sym (and_passed one two w.if-now-before.true)
       | else-now-before w ↦ w.value-is ∙ sym (and_failed one two w.if-now-before.false)
     ] in
+    -- the three tests on what has been computed
     let tests : is_attack (energy_at a.e.now) a.peak a.s ≡ (one && two && Ieee.lt floor64 now) =
     attack_is a.e.now a.peak a.s _ _ _ _ _ _ c.sum_of.ensures c.mean-before_4.ensures c.sum_of-2.ensures c.mean-before_2.ensures c.min-before.ensures refl
     in
@@ -33,13 +36,16 @@ returns-then-now-peak c =
 pub returns-else-now-peak : goal.returns-else-now-peak
 returns-else-now-peak c =
     let a = c.args in
+    -- the energy of the slot
     let now : Float = energy_at a.e.now a.s in
     let one : Bool = Ieee.lt (Ieee.add binary64 (Ieee.mul binary64 eight c.min-before.result) nano) now in
     let two : Bool = Ieee.lt (Ieee.mul binary64 tenth a.peak) now in
+    -- the first two of the tests
     let both : c.if-now-before.value ≡ (one && two) = elim c.if-now-before.branch [
       | then-now-before w ↦ w.value-is ∙ sym (and_passed one two w.if-now-before.true)
       | else-now-before w ↦ w.value-is ∙ sym (and_failed one two w.if-now-before.false)
     ] in
+    -- the three tests on what has been computed
     let tests : is_attack (energy_at a.e.now) a.peak a.s ≡ (one && two && Ieee.lt floor64 now) =
     attack_is a.e.now a.peak a.s _ _ _ _ _ _ c.sum_of.ensures c.mean-before_4.ensures c.sum_of-2.ensures c.mean-before_2.ensures c.min-before.ensures refl
     in

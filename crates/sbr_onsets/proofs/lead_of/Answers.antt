@@ -16,10 +16,13 @@ overflow_sub-past c = code_fits _ _ c.ranges.t_e_last_prev (slots_few _ c.requir
 
 pub returns-then-past : goal.returns-then-past
 returns-then-past c =
+    -- the code's difference is it
     let is = code_is _ _ c.ranges.t_e_last_prev (slots_few _ c.requires) in
     held_above (past c.args.num_time_slots c.args.t_e_last_prev) (rw is at c.if-past.true)
 
 pub returns : goal.returns
 returns c =
+    -- the code's difference is it
     let is = code_is _ _ c.ranges.t_e_last_prev (slots_few _ c.requires) in
+    -- where it passes both tests
     rw is (held_within _ (rw is at c.if-past-lt0.false) (rw is at c.if-past.false)).is_held
