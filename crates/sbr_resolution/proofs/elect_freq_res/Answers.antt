@@ -45,6 +45,7 @@ returns-then-t1-t0-lt4 c = elect-short _ _ _ _ (omega arith)
 
 pub loop-j-init : goal.loop-j-init
 loop-j-init c =
+    -- the tables fit
     let t = tables _ _ c.requires.0.tables in
     (t.low.some, omega (arith, t.high.some), sym t.first, refl, refl)
 
@@ -80,6 +81,7 @@ returns-then-is_spread c =
       before = e.2;
       reached = e.3;
     } in
+    -- the means of the low band at hand are spread where the code says so
     let spread = spread_front _ (inner x a.high.now env l.i k) _ _ _ (inner-count x a.high.now env l.i k) c.band_means.ensures c.is_spread.ensures in
     spread-stop x a.high.now a.low.now env l.j _ (turn x a.high.now a.low.now env l.i k l.j t) (sym c.if-is_spread.true ∙ spread)
     ∙ l.invariant.3
@@ -114,6 +116,7 @@ loop-j-preserved c =
             skip (sym w.if-is_spread.false ∙ spread_front _ (inner x a.high.now env l.i k) _ _ _ count w.band_means.ensures w.is_spread.ensures) ∙ l.invariant.3
         | else-e-i-ge2 w ↦ skip (spread_few _ (omega (arith, count, w.if-e-i-ge2.false))) ∙ l.invariant.3
       ],
+      -- the array keeps its length
       elim c.if-e-i-ge2.branch [
         | then-e-i-ge2+else-is_spread w ↦ ap length w.means-is ∙ w.band_means.auto.out ∙ l.invariant.4
         | else-e-i-ge2 w ↦ ap length w.means-is ∙ l.invariant.4
