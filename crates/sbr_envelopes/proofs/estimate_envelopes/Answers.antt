@@ -14,12 +14,14 @@ returns-then-not-is_slot_count c =
 pub returns-then-not-tables_fit : goal.returns-then-not-tables_fit
 returns-then-not-tables_fit c =
     let a = c.args in
+    -- what each test tells once it is passed
     let slots : is_slot_count a.num_time_slots ≡ true = sym c.is_slot_count.ensures ∙ c.if-not-is_slot_count.false in
     refuses _ Tables _ (no-tables a.high.now a.low.now a.x.now a.grid a.num_time_slots _ slots (sym c.tables_fit.ensures ∙ c.if-not-tables_fit.true))
 
 pub returns-then-x-samples_needed : goal.returns-then-x-samples_needed
 returns-then-x-samples_needed c =
     let a = c.args in
+    -- what each test tells once it is passed
     let slots : is_slot_count a.num_time_slots ≡ true = sym c.is_slot_count.ensures ∙ c.if-not-is_slot_count.false in
     let fit : tables_fit a.high.now a.low.now ≡ true = sym c.tables_fit.ensures ∙ c.if-not-tables_fit.false in
     let few : length a.x.now < samples_needed a.num_time_slots = omega (arith, rw slots at c.samples_needed.ensures, c.if-x-samples_needed.true) in
@@ -28,6 +30,7 @@ returns-then-x-samples_needed c =
 pub returns : goal.returns
 returns c =
     let a = c.args in
+    -- what each test tells once it is passed
     let slots : is_slot_count a.num_time_slots ≡ true = sym c.is_slot_count.ensures ∙ c.if-not-is_slot_count.false in
     let fit : tables_fit a.high.now a.low.now ≡ true = sym c.tables_fit.ensures ∙ c.if-not-tables_fit.false in
     let enough : samples_needed a.num_time_slots ≤ length a.x.now = omega (arith, rw slots at c.samples_needed.ensures, c.if-x-samples_needed.false) in

@@ -18,6 +18,7 @@ band_means-requires c =
     let a = c.args in
     let l = c.loop-l in
     let p = c.requires in
+    -- the tables and the samples for the envelope at hand
     let r : Ready a.high.now a.low.now a.x.now (get_or a.t (l.l + 1) 0) = ready_upto _ _ _ a.t a.num_env p.1 p.2 (l.l + 1) (omega arith) in
     let t = tables _ _ r.tables in
     let some = t.high.some in (
@@ -33,6 +34,7 @@ overflow_sub-at c = omega (arith, (tables _ _ c.requires.2.tables).high)
 
 pub overflow_add-at : goal.overflow_add-at
 overflow_add-at c =
+    -- there is room for the row at hand, by the table of its resolution
     let room = filled-room _ _ _ _ _ _ _ _ _ c.loop-l.invariant c.args.num_env true c.if-freq_res-l.true (omega arith) c.requires.3 in
     omega (arith, room)
 
@@ -44,6 +46,7 @@ band_means-requires-else-freq_res-l c =
     let a = c.args in
     let l = c.loop-l in
     let p = c.requires in
+    -- the tables and the samples for the envelope at hand
     let r : Ready a.high.now a.low.now a.x.now (get_or a.t (l.l + 1) 0) = ready_upto _ _ _ a.t a.num_env p.1 p.2 (l.l + 1) (omega arith) in
     let t = tables _ _ r.tables in
     let some = t.low.some in (
@@ -59,6 +62,7 @@ overflow_sub-at-else-freq_res-l c = omega (arith, (tables _ _ c.requires.2.table
 
 pub overflow_add-at-else-freq_res-l : goal.overflow_add-at-else-freq_res-l
 overflow_add-at-else-freq_res-l c =
+    -- there is room for the row at hand, by the table of its resolution
     let room = filled-room _ _ _ _ _ _ _ _ _ c.loop-l.invariant c.args.num_env false c.if-freq_res-l.false (omega arith) c.requires.3 in
     omega (arith, room)
 

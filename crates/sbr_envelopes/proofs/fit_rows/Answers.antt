@@ -10,12 +10,17 @@ pub overflow_sub-low : goal.overflow_sub-low
 overflow_sub-low c = omega (arith, (tables _ _ c.requires.2.tables).low)
 
 pub rows_length-count-requires : goal.rows_length-count-requires
-rows_length-count-requires c = let t = tables _ _ c.requires.2.tables in omega (arith, t.high, t.low)
+rows_length-count-requires c =
+    -- the tables
+    let t = tables _ _ c.requires.2.tables in
+    omega (arith, t.high, t.low)
 
 pub returns-then-out-count : goal.returns-then-out-count
 returns-then-out-count c =
     let a = c.args in
+    -- the rows
     let all = rows_in a.high.now a.low.now a.x.now a.freq_res a.t a.num_env in
+    -- they hold as many numbers as were counted
     let counted : length all ≡ c.rows_length-count.result =
     rows_count a.high.now a.low.now a.x.now a.freq_res a.t a.num_env ∙ sym c.rows_length-count.ensures
     in
@@ -24,7 +29,9 @@ returns-then-out-count c =
 pub returns : goal.returns
 returns c =
     let a = c.args in
+    -- the rows
     let all = rows_in a.high.now a.low.now a.x.now a.freq_res a.t a.num_env in
+    -- they hold as many numbers as were counted
     let counted : length all ≡ c.rows_length-count.result =
     rows_count a.high.now a.low.now a.x.now a.freq_res a.t a.num_env ∙ sym c.rows_length-count.ensures
     in

@@ -13,6 +13,7 @@ pub fit_rows-requires : goal.fit_rows-requires
 fit_rows-requires c =
     let a = c.args in
     let d = c.derive_time_grid-derived.result.time in
+    -- the time grid
     let g : (t : Times) × (time_grid a.num_time_slots (view_of a.grid) ≡ answered t) =
     given_is _ (ap (λ (x : Derived). x.answer) (sym c.derive_time_grid-derived.ensures) ∙ c.in_default.is)
     in
@@ -22,6 +23,7 @@ fit_rows-requires c =
 pub returns : goal.returns
 returns c =
     let a = c.args in
+    -- the time grid
     let g : (t : Times) × (time_grid a.num_time_slots (view_of a.grid) ≡ answered t) =
     given_is _ (ap (λ (x : Derived). x.answer) (sym c.derive_time_grid-derived.ensures) ∙ c.in_default.is)
     in
