@@ -1,9 +1,9 @@
+-- `c_values::form::entry` meets its contract.
 use native.Mathlib.Omega.{arith}
 use mathlib.Core.Path.{sym}
 use Rattle.sbr_grid.proofs.First.{first-get_or, first-get_or_past, first-get_or_short}
 use Rattle.c_values.proofs.form.entry.Goals as goal
 
--- `c_values::form::entry` meets its contract.
 pub returns-then-count-i : goal.returns-then-count-i
 returns-then-count-i c = let a = c.args in sym (first-get_or_past 0 a.count a.i a.range.now c.if-count-i.true)
 

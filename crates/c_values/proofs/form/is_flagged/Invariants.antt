@@ -1,3 +1,4 @@
+-- `c_values::form::is_flagged` meets its contract.
 use mathlib.Core.Path.{◌≡◌}
 use Prim.Native.Nat.{◌≤◌, ◌-◌}
 use lib.Dec.{leb}
@@ -6,7 +7,6 @@ use Rattle.sbr_grid.specs.Grid.{first}
 use Rattle.sbr_writer.specs.Write.{every}
 use Rattle.c_values.proofs.form.is_flagged.Given as goal
 
--- `c_values::form::is_flagged` meets its contract.
 abbrev pub invariant-loop-i : goal.invariant-loop-i
 invariant-loop-i l = (l.i ≤ l.count) × (every (λ b. leb b 1) (drop l.i (first 0 l.count l.range)) ≡ every (λ b. leb b 1) (first 0 l.count l.range))
 

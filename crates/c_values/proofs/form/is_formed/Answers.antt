@@ -1,9 +1,9 @@
+-- `c_values::form::is_formed` meets its contract.
 use native.Mathlib.Omega.{arith}
 use Rattle.sbr_time_grid.proofs.Laws.{untrue}
 use Rattle.c_values.proofs.Formed.{formed_told, formed_last}
 use Rattle.c_values.proofs.form.is_formed.Goals as goal
 
--- `c_values::form::is_formed` meets its contract.
 pub returns-then-h-gt-MAX_CODE : goal.returns-then-h-gt-MAX_CODE
 returns-then-h-gt-MAX_CODE c = untrue _ (λ t. omega (arith, formed_told _ _ _ t))
 

@@ -1,3 +1,4 @@
+-- `c_values::form::record` meets its contract.
 use lib.ListN.{length-map}
 use Rattle.sbr_grid.proofs.First.{first-length}
 use Rattle.c_values.proofs.form.record.Goals as goal

@@ -1,3 +1,4 @@
+-- `c_values::give::numbers` meets its contract.
 use Rattle.sbr_grid.proofs.Laws.{lengths}
 use Rattle.c_values.proofs.give.numbers.Goals as goal
 
