@@ -6,7 +6,7 @@ ghost use Rattle.sbr_text.specs.Code.{text_line_of, parts_of, with_border, Tidy,
 use crate::{Kind, TextLine};
 
 // What stands in a line so far.
-#[derive(Drop)]
+#[derive(Clone, Copy)]
 pub struct Parts {
     // Nothing was found that no line has.
     pub good: bool,
