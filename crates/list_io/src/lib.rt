@@ -2,12 +2,12 @@
 #![tactic(auto)]
 
 ghost use Rattle.std.specs.Prelude.{◌≡◌, ◌≤◌, min, length};
-ghost use Rattle.io.specs.Counts.{IsPrefixLen};
+ghost use Rattle.case_io.specs.Counts.{CountsFirst};
 ghost use Rattle.sbr_list.specs.Listing.{listing};
 ghost use Rattle.sbr_list.specs.Enough.{most_input, is_letter, settled};
 
-use libc::{STDIN_FILENO, STDOUT_FILENO};
 use sbr_list::{MOST_INPUT, PAGE_SIZE};
+use std::io::Read;
 
 // How many bytes are asked for: never more than a listing needs.
 fn asked(most: usize) -> usize
@@ -17,10 +17,10 @@ fn asked(most: usize) -> usize
 }
 
 // Prints the listing of an input.
-fn print_listing(input: &[u8]) {
+fn print_listing(rt: &impl Print, input: &[u8]) {
     let mut page = [0u8; PAGE_SIZE];
     let len = sbr_list::list_grids(input, &mut page);
-    io::write_all(STDOUT_FILENO, &page[..len]);
+    case_io::print(rt, &page[..len]);
 }
 
 // Whether a byte is the letter of a resolution.
@@ -53,23 +53,23 @@ fn is_whole(input: &[u8]) -> bool
     is_settled(&page[..len])
 }
 
-// Reads what is there, at least a byte where the input has not ended; answers how many bytes that are.
-fn read_some(buf: &mut [u8]) -> usize
+// Reads what is there, at least a byte where the input has not ended; answers how many bytes that are. A failed read counts as the end.
+fn read_some(rt: &impl Input, buf: &mut [u8]) -> usize
     ensures { result ≤ length buf.old }
 {
-    io::count(libc::read(STDIN_FILENO, buf), buf)
+    rt.reader().read(buf).unwrap_or(0)
 }
 
 // Reads on until every frame is there, the input ends or the range is full; answers how many bytes are read.
-fn read_on(input: &mut [u8]) -> usize
-    ensures { IsPrefixLen result input.new }
+fn read_on(rt: &impl Input, input: &mut [u8]) -> usize
+    ensures { CountsFirst result input.new }
 {
     let mut got = 0;
     while got < input.len() {
         if is_whole(&input[..got]) {
             return got;
         }
-        let more = read_some(&mut input[got..]);
+        let more = read_some(rt, &mut input[got..]);
         if more == 0 {
             return got;
         }
@@ -79,20 +79,20 @@ fn read_on(input: &mut [u8]) -> usize
 }
 
 // Reads the input and prints the listing of what was read, nothing else; answers how many bytes that are.
-fn list_read(input: &mut [u8]) -> usize
+fn list_read(rt: &(impl Input + Print), input: &mut [u8]) -> usize
     ensures { result ≤ length input.old }
 {
-    let got = read_on(input);
-    print_listing(&input[..got]);
+    let got = read_on(rt, input);
+    print_listing(rt, &input[..got]);
     got
 }
 
 // Reads standard input, at most `most` bytes, and prints the listing of what was read; answers how many bytes that are. No contract can say
 // what is read or printed.
-pub fn list_input(most: usize) -> usize
+pub fn list_input(rt: &(impl Input + Print), most: usize) -> usize
     ensures { result ≤ min most most_input }
 {
     let mut input = [0u8; MOST_INPUT];
     let size = asked(most);
-    list_read(&mut input[..size])
+    list_read(rt, &mut input[..size])
 }
