@@ -2,12 +2,9 @@
 use mathlib.Core.Path.{◌≡◌, refl, sym, ap, ◌∙◌}
 use mathlib.Core.Bool.{Bool, false}
 use mathlib.Core.List.{List, map}
-use mathlib.Core.Logic.{◌⊎◌, ⊎_elim}
 use Prim.Native.Nat.{ℕ, ◌+◌, ◌-◌}
 use native.Mathlib.Omega.{arith}
-use denote.Enum.Declared.{tag_of}
 use lib.ListN.{length}
-use Rattle.sbr_grid.specs.contracts.FrameClass.{the_type}
 use Rattle.sbr_grid.specs.declared.FrameClass.{FrameClass}
 use Rattle.sbr_grid.specs.declared.FrameClass.TheVariants.{FixFix, FixVar, VarFix, VarVar}
 use Rattle.sbr_grid.specs.declared.SbrGrid.{SbrGrid}
@@ -25,8 +22,8 @@ by_fix : {A : Type 0} (k : FrameClass) (a b : A) → k ≡ FixFix → by_class k
 by_fix k a b e = rw e
 
 -- the entry of each other class, where they have the same
-by_other : {A : Type 0} (k : FrameClass) (a b : A) → (tag_of the_type k ≡ 1) ⊎ ((tag_of the_type k ≡ 2) ⊎ (tag_of the_type k ≡ 3)) → by_class k a b b b ≡ b
-by_other FixFix a b h = absurd (⊎_elim (λ e. omega arith) (⊎_elim (λ e. omega arith) (λ e. omega arith)) h)
+by_other : {A : Type 0} (k : FrameClass) (a b : A) → (k ≡ FixFix → ⊥) → by_class k a b b b ≡ b
+by_other FixFix a b h = absurd (h refl)
 by_other FixVar a b h = refl
 by_other VarFix a b h = refl
 by_other VarVar a b h = refl
@@ -37,8 +34,7 @@ module _ (x : SampleAt) (high low : List ℕ) (grid : SbrGrid) (t : Times) (same
   keeps e = sym (ap record_of (by_fix grid.frame_class (view_of grid) _ e) ∙ same)
 
   -- in each other class the resolutions are elected
-  pub elects : (r : List Bool) → (tag_of the_type grid.frame_class ≡ 1) ⊎ ((tag_of the_type grid.frame_class ≡ 2) ⊎ (tag_of the_type grid.frame_class ≡ 3))
-      → length t.t_e ≡ grid.num_env + 1 → r ≡ first false 5 (map (elect_freq_res x high low) (spans t.t_e))
+  pub elects : (r : List Bool) → (grid.frame_class ≡ FixFix → ⊥) → length t.t_e ≡ grid.num_env + 1 → r ≡ first false 5 (map (elect_freq_res x high low) (spans t.t_e))
       → record {
         frame_class = grid.frame_class;
         num_env = grid.num_env;

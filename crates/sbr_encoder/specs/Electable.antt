@@ -1,5 +1,5 @@
 -- What holds of every elected record, whatever the samples: the statements. Proved in proofs/EveryElection.antt.
-use Rattle.std.specs.Prelude.{◌≡◌, Bool, true, List, ◌++◌, ℕ, ◌+◌, ℤ, pos, Float}
+use Rattle.std.specs.Prelude.{◌≡◌, Bool, true, List, ◌++◌, ℕ, ℤ, pos, Float}
 use Rattle.sbr_grid.specs.Refusals.{answered}
 use Rattle.sbr_grid.specs.Grid.{Grid, num_env_of, view_of, record_of}
 use Rattle.sbr_grid.specs.Times.{Times}
