@@ -26,8 +26,7 @@ loop-l-init c =
 
 pub rel_bord_lead-b-requires : goal.rel_bord_lead-b-requires
 rel_bord_lead-b-requires c =
-    let r = c in
-    (omega (arith, fit c.args.g c.requires.1), r.nint_ratio-step.ensures.upper_bound)
+    (omega (arith, fit c.args.g c.requires.1), c.nint_ratio-step.ensures.upper_bound)
 
 pub offset_bounds-t-l : goal.offset_bounds-t-l
 offset_bounds-t-l c = omega (arith, fit c.args.g c.requires.1)

@@ -18,8 +18,7 @@ bounds-t-le c = omega (arith, fit c.args.g c.requires.1)
 
 pub loop-l-init : goal.loop-l-init
 loop-l-init c =
-    let s = c in
-    let a = s.args in (
+    let a = c.args in (
       trail_first _ _,
       simp length-set (omega arith),
       rw (sub-zero) (filled_one _ a.t.now a.g.num_env _ (omega (arith, fit c.args.g c.requires.1)) (trail_at_lem _ _ a.g.num_env 0 _ _ (omega arith) (trail_first _ _))),

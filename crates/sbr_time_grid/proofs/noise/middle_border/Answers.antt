@@ -41,6 +41,6 @@ unfolding middle_border
 returns-in_default-p c =
     let g = c.args.g in
     ⊎_elim
-    (λ (e : g.frame_class ≡ FixVar). rw (c.less.ensures, e, pointer_high g.pointer _ _ _ c.in_default-p.if-p-lt2-own.false, (lengths g).env))
-    (λ (e : g.frame_class ≡ VarVar). rw (c.less.ensures, e, pointer_high g.pointer _ _ _ c.in_default-p.if-p-lt2-own.false, (lengths g).env))
+    (λ (e : g.frame_class ≡ FixVar). rw (c.less.ensures, e, pointer_high g.pointer _ _ _ (omega arith), (lengths g).env))
+    (λ (e : g.frame_class ≡ VarVar). rw (c.less.ensures, e, pointer_high g.pointer _ _ _ (omega arith), (lengths g).env))
     c.in-FixVar.is
