@@ -6,5 +6,4 @@ use Rattle.sbr_build.proofs.fixfix_grid.Goals as goal
 pub returns : goal.returns
 unfolding fixfix_grid
 returns c =
-    let b = c in
-    rw (lengths_list b.none.ensures.0 (omega arith), lengths_list b.none-2.ensures.0 (omega arith)) at c.grid_of.ensures
+    rw (lengths_list c.none.ensures.0 (omega arith), lengths_list c.none-2.ensures.0 (omega arith)) at c.grid_of.ensures

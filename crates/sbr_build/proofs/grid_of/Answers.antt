@@ -5,12 +5,12 @@ use Rattle.sbr_build.specs.Build.{length_list, raw}
 use Rattle.sbr_build.proofs.LengthsOf.{lengths_count}
 use Rattle.sbr_build.proofs.grid_of.Goals as goal
 
+-- the number of noise floors is left to the search
 pub returns : goal.returns
 returns c =
-    let s = c in
-    let a = s.args in
+    let a = c.args in
     rw (
-      s.flags.ensures,
+      c.flags.ensures,
       c.raw_rel.ensures,
       c.raw_rel-2.ensures,
       c.single.ensures,

@@ -14,15 +14,14 @@ returns-then-left-len c =
 
 pub loop-i-preserved : goal.loop-i-preserved
 loop-i-preserved c =
-    let b = c in
-    let s = b.loop-i in
-    let n = b.args.num_env in
+    let s = c.loop-i in
+    let n = c.args.num_env in
     let e : n - c.push-rel.result.count ≡ n - s.rel.count - 1 = omega arith in
     let p = lengths_step _ s.invariant.2 (omega arith) c.push-rel.ensures.0 in (
       omega arith,
       omega arith,
       p.held,
-      rw e (shares-next (length_list s.rel) _ _ _ _ _ (omega arith) b.share-len.ensures.0 c.if-left-len.false p.list s.invariant.3),
+      rw e (shares-next (length_list s.rel) _ _ _ _ _ (omega arith) c.share-len.ensures.0 c.if-left-len.false p.list s.invariant.3),
     )
 
 pub returns : goal.returns

@@ -5,5 +5,4 @@ use Rattle.sbr_build.proofs.two.Goals as goal
 
 pub returns : goal.returns
 returns c =
-    let b = c in
-    (lengths_push _ _ (lengths_push _ _ b.none.ensures.0 (omega arith) b.push.ensures.0) (omega arith) c.push-2.ensures.0, search rules)
+    (lengths_push _ _ (lengths_push _ _ c.none.ensures.0 (omega arith) c.push.ensures.0) (omega arith) c.push-2.ensures.0, search rules)
