@@ -6,13 +6,11 @@ use Rattle.sbr_borders.proofs.fitting.Goals as goal
 
 pub returns-then-reaches : goal.returns-then-reaches
 returns-then-reaches c =
-    let s = c in
-    ap fit_of (fit-stop 4 _ _ _ _ (omega arith) _ (sym c.reaches.ensures ∙ c.if-reaches.true) s.loop-k.invariant.1)
+    ap fit_of (fit-stop 4 _ _ _ _ (omega arith) _ (sym c.reaches.ensures ∙ c.if-reaches.true) c.loop-k.invariant.1)
 
 pub loop-k-preserved : goal.loop-k-preserved
 loop-k-preserved c =
-    let s = c in
-    (omega arith, fit_next 4 _ _ _ _ (omega arith) _ (sym c.reaches.ensures ∙ c.if-reaches.false) s.loop-k.invariant.1)
+    (omega arith, fit_next 4 _ _ _ _ (omega arith) _ (sym c.reaches.ensures ∙ c.if-reaches.false) c.loop-k.invariant.1)
 
 pub returns : goal.returns
 returns c = ap fit_of (fit-end 4 _ _ _ _ _ (omega arith) c.loop-k.invariant.1)

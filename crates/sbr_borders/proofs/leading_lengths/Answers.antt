@@ -12,10 +12,9 @@ loop-i-init c =
 
 pub loop-i-preserved : goal.loop-i-preserved
 loop-i-preserved c =
-    let s = c in
-    let a = s.args in (
+    let a = c.args in (
       omega arith,
-      steps_next s.loop-i.invariant.1 _ _ _ (omega arith) (first-get_or 0 a.k s.loop-i.i a.borders (omega arith)) c.less.ensures.0
+      steps_next c.loop-i.invariant.1 _ _ _ (omega arith) (first-get_or 0 a.k c.loop-i.i a.borders (omega arith)) c.less.ensures.0
           c.push-out.ensures.0 c.push-out.ensures.1,
     )
 

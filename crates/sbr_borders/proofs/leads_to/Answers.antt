@@ -11,17 +11,15 @@ loop-i-init c =
 
 pub returns-then-not-even_ok : goal.returns-then-not-even_ok
 returns-then-not-even_ok c =
-    let s = c in
-    let a = s.args in
-    walk-stop s.loop-i.invariant.1 _ (omega arith) (first-get_or 0 a.k s.loop-i.i a.borders (omega arith))
+    let a = c.args in
+    walk-stop c.loop-i.invariant.1 _ (omega arith) (first-get_or 0 a.k c.loop-i.i a.borders (omega arith))
     (sym c.even_ok.ensures ∙ c.if-not-even_ok.true)
 
 pub loop-i-preserved : goal.loop-i-preserved
 loop-i-preserved c =
-    let s = c in
-    let a = s.args in (
+    let a = c.args in (
       omega arith,
-      walk-next s.loop-i.invariant.1 _ (omega arith) (first-get_or 0 a.k s.loop-i.i a.borders (omega arith))
+      walk-next c.loop-i.invariant.1 _ (omega arith) (first-get_or 0 a.k c.loop-i.i a.borders (omega arith))
           (sym c.even_ok.ensures ∙ c.if-not-even_ok.false),
     )
 

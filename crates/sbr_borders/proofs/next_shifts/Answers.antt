@@ -10,6 +10,7 @@ returns-then-up-shift_count-clause-value c =
     let s = c.loop-i in
     let i = s.i in
     let size : length c.args.w.border ≡ 4 = omega arith in
+    -- the border at an index, as the definitions read it
     let border = border_at c.args.w.border 4 i (length-map c.args.w.border _ ∙ size) (omega arith) in
     let e = c.shift_count.ensures ∙ ap shift_count border in
     let few = shifts_few (get_or c.args.w.border i (onset_at 0)).onset in
@@ -21,6 +22,7 @@ returns-then-up-shift_count-clause-shifts_fit c =
     let s = c.loop-i in
     let i = s.i in
     let size : length c.args.w.border ≡ 4 = omega arith in
+    -- the border at an index, as the definitions read it
     let border = border_at c.args.w.border 4 i (length-map c.args.w.border _ ∙ size) (omega arith) in
     let e = c.shift_count.ensures ∙ ap shift_count border in
     let few = shifts_few (get_or c.args.w.border i (onset_at 0)).onset in
@@ -30,6 +32,7 @@ pub loop-i-preserved : goal.loop-i-preserved
 loop-i-preserved c =
     let i = c.loop-i.i in
     let size : length c.args.w.border ≡ 4 = omega arith in
+    -- the border at an index, as the definitions read it
     let border = border_at c.args.w.border 4 i (length-map c.args.w.border _ ∙ size) (omega arith) in
     let e = c.shift_count.ensures ∙ ap shift_count border in (
       omega arith,

@@ -13,11 +13,10 @@ loop-i-init c =
 
 pub loop-i-preserved : goal.loop-i-preserved
 loop-i-preserved c =
-    let s = c in
-    let a = s.args in (
+    let a = c.args in (
       omega arith,
-      s.requires.3 (a.count - 1 - s.loop-i.i) (omega arith),
-      steps_next s.loop-i.invariant.2 _ _ _ (omega arith) (get_or_last a.k a.count a.borders s.loop-i.i (omega arith)) c.less.ensures.0
+      c.requires.3 (a.count - 1 - c.loop-i.i) (omega arith),
+      steps_next c.loop-i.invariant.2 _ _ _ (omega arith) (get_or_last a.k a.count a.borders c.loop-i.i (omega arith)) c.less.ensures.0
           c.push-out.ensures.0 c.push-out.ensures.1,
     )
 

@@ -11,17 +11,15 @@ loop-i-init c =
 
 pub returns-then-not-even_ok : goal.returns-then-not-even_ok
 returns-then-not-even_ok c =
-    let s = c in
-    let a = s.args in
-    walk-stop s.loop-i.invariant.1 _ (omega arith) (get_or_last a.k a.count a.borders s.loop-i.i (omega arith))
+    let a = c.args in
+    walk-stop c.loop-i.invariant.1 _ (omega arith) (get_or_last a.k a.count a.borders c.loop-i.i (omega arith))
     (sym c.even_ok.ensures ∙ c.if-not-even_ok.true)
 
 pub loop-i-preserved : goal.loop-i-preserved
 loop-i-preserved c =
-    let s = c in
-    let a = s.args in (
+    let a = c.args in (
       omega arith,
-      walk-next s.loop-i.invariant.1 _ (omega arith) (get_or_last a.k a.count a.borders s.loop-i.i (omega arith))
+      walk-next c.loop-i.invariant.1 _ (omega arith) (get_or_last a.k a.count a.borders c.loop-i.i (omega arith))
           (sym c.even_ok.ensures ∙ c.if-not-even_ok.false),
     )
 
