@@ -14,31 +14,24 @@ ends s2 nts tail h k = rw (le-leb tail 8 h, le-leb (s2 + 2 + tail) (nts + 3) k)
 
 pub returns-then-sp1-lead-le8 : goal.returns-then-sp1-lead-le8
 returns-then-sp1-lead-le8 c =
-    let e = c in
-    let p = e in
-    let t = p in
-    let a = t.args in
+    let a = c.args in
     rw (
-      double_from_lem a.s1 a.s2 a.lead a.nts _ _ _ t.tail_of-tail.ensures.0 p.aligned_attack-sp1.ensures.0 refl,
-      ends a.s2 a.nts t.tail_of-tail.result (omega arith) (omega arith),
-      le-leb (p.aligned_attack-sp1.result + 3) a.s2 (omega arith),
-      le-leb (p.aligned_attack-sp1.result - a.lead) 8 c.if-sp1-lead-le8.true,
+      double_from_lem a.s1 a.s2 a.lead a.nts _ _ _ c.tail_of-tail.ensures.0 c.aligned_attack-sp1.ensures.0 refl,
+      ends a.s2 a.nts c.tail_of-tail.result (omega arith) (omega arith),
+      le-leb (c.aligned_attack-sp1.result + 3) a.s2 (omega arith),
+      le-leb (c.aligned_attack-sp1.result - a.lead) 8 c.if-sp1-lead-le8.true,
       c.near_double.ensures,
     )
 
 pub returns-then-segs-ne2 : goal.returns-then-segs-ne2
 returns-then-segs-ne2 c =
-    let q = c in
-    let e = q in
-    let p = e in
-    let t = p in
-    let a = t.args in
-    let r = q.even_segments-segs.result in
+    let a = c.args in
+    let r = c.even_segments-segs.result in
     rw (
-      double_from_lem a.s1 a.s2 a.lead a.nts _ _ _ t.tail_of-tail.ensures.0 p.aligned_attack-sp1.ensures.0 (lengths_list q.even_segments-segs.ensures.0 (omega arith)),
-      ends a.s2 a.nts t.tail_of-tail.result (omega arith) (omega arith),
-      le-leb (p.aligned_attack-sp1.result + 3) a.s2 (omega arith),
-      lt-leb (p.aligned_attack-sp1.result - a.lead) 8 q.if-sp1-lead-le8.false,
+      double_from_lem a.s1 a.s2 a.lead a.nts _ _ _ c.tail_of-tail.ensures.0 c.aligned_attack-sp1.ensures.0 (lengths_list c.even_segments-segs.ensures.0 (omega arith)),
+      ends a.s2 a.nts c.tail_of-tail.result (omega arith) (omega arith),
+      le-leb (c.aligned_attack-sp1.result + 3) a.s2 (omega arith),
+      lt-leb (c.aligned_attack-sp1.result - a.lead) 8 c.if-sp1-lead-le8.false,
       le-leb a.nts (a.s2 + 2) (omega arith),
       lengths_count r,
       ne_eqb r.count 2 c.if-segs-ne2.true,
@@ -47,17 +40,13 @@ returns-then-segs-ne2 c =
 
 pub returns : goal.returns
 returns c =
-    let q = c in
-    let e = q in
-    let p = e in
-    let t = p in
-    let a = t.args in
-    let r = q.even_segments-segs.result in
+    let a = c.args in
+    let r = c.even_segments-segs.result in
     rw (
-      double_from_lem a.s1 a.s2 a.lead a.nts _ _ _ t.tail_of-tail.ensures.0 p.aligned_attack-sp1.ensures.0 (lengths_list q.even_segments-segs.ensures.0 (omega arith)),
-      ends a.s2 a.nts t.tail_of-tail.result (omega arith) (omega arith),
-      le-leb (p.aligned_attack-sp1.result + 3) a.s2 (omega arith),
-      lt-leb (p.aligned_attack-sp1.result - a.lead) 8 q.if-sp1-lead-le8.false,
+      double_from_lem a.s1 a.s2 a.lead a.nts _ _ _ c.tail_of-tail.ensures.0 c.aligned_attack-sp1.ensures.0 (lengths_list c.even_segments-segs.ensures.0 (omega arith)),
+      ends a.s2 a.nts c.tail_of-tail.result (omega arith) (omega arith),
+      le-leb (c.aligned_attack-sp1.result + 3) a.s2 (omega arith),
+      lt-leb (c.aligned_attack-sp1.result - a.lead) 8 c.if-sp1-lead-le8.false,
       le-leb a.nts (a.s2 + 2) (omega arith),
       lengths_count r,
       eq-eqb r.count 2 c.if-segs-ne2.false,

@@ -6,11 +6,11 @@ use Rattle.sbr_attack.proofs.far_double.Goals as goal
 
 pub returns : goal.returns
 returns c =
-    let p = c in
-    let s = p.args.segs in
+    let s = c.args.segs in
+    -- the lengths handed in have four places
     let g : length s.slots ≡ 4 = omega arith in
     rw (
       c.varvar_grid.ensures,
       lengths_list (lengths_push _ _ c.none.ensures.0 (omega arith) c.push-2.ensures.0) (omega arith),
-      pushed_list s 2 p.push.ensures.0 (omega arith),
+      pushed_list s 2 c.push.ensures.0 (omega arith),
     )

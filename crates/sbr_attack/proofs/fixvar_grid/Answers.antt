@@ -9,10 +9,9 @@ use Rattle.sbr_attack.proofs.fixvar_grid.Goals.{then-nts-sp, else-nts-sp}
 
 pub returns : goal.returns
 returns c =
-    let p = c in
-    let j = p in
-    let a = j.args in
+    let a = c.args in
+    -- the end of the grid
     let end : c.if-nts-sp.t ≡ max a.nts (a.s - a.s % 2 + 4) = elim c.if-nts-sp.branch [ then-nts-sp w ↦ omega arith | else-nts-sp w ↦ omega arith ] in
-    let r = p.fixvar_segs-segs.result in
-    rw (fixvar_from a.s a.nts _ (length_list r) (r.count + 1) end (lengths_list p.fixvar_segs-segs.ensures.0 (omega arith)) (omega (arith, lengths_count r)))
+    let r = c.fixvar_segs-segs.result in
+    rw (fixvar_from a.s a.nts _ (length_list r) (r.count + 1) end (lengths_list c.fixvar_segs-segs.ensures.0 (omega arith)) (omega (arith, lengths_count r)))
     (rw (lengths_list c.none.ensures.0 (omega arith)) at c.grid_of.ensures)

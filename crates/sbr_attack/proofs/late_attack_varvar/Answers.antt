@@ -13,26 +13,23 @@ returns-then-lead-eq0 c =
 
 pub returns-then-sp-nts : goal.returns-then-sp-nts
 returns-then-sp-nts c =
-    let p = c in
-    let a = p.args in
+    let a = c.args in
     rw (
-      late_from_lem a.s a.lead a.nts _ _ p.aligned_attack-sp.ensures.0 refl,
+      late_from_lem a.s a.lead a.nts _ _ c.aligned_attack-sp.ensures.0 refl,
       lt-ltb 0 a.lead (omega arith),
-      lt-leb a.nts (p.aligned_attack-sp.result + 2) (omega arith),
+      lt-leb a.nts (c.aligned_attack-sp.result + 2) (omega arith),
       c.not_late-then-sp-nts.ensures,
     )
 
 pub returns-then-segs-gt-MAX_SIDE_REL : goal.returns-then-segs-gt-MAX_SIDE_REL
 returns-then-segs-gt-MAX_SIDE_REL c =
-    let q = c in
-    let p = q in
-    let a = p.args in
-    let r = q.even_segments-segs.result in
+    let a = c.args in
+    let r = c.even_segments-segs.result in
     rw (
-      late_from_lem a.s a.lead a.nts _ _ p.aligned_attack-sp.ensures.0 (lengths_list q.even_segments-segs.ensures.0 (omega arith)),
+      late_from_lem a.s a.lead a.nts _ _ c.aligned_attack-sp.ensures.0 (lengths_list c.even_segments-segs.ensures.0 (omega arith)),
       lt-ltb 0 a.lead (omega arith),
-      le-leb a.nts (p.aligned_attack-sp.result + 2) (omega arith),
-      le-leb (p.aligned_attack-sp.result + 3) (a.nts + 3) (omega arith),
+      le-leb a.nts (c.aligned_attack-sp.result + 2) (omega arith),
+      le-leb (c.aligned_attack-sp.result + 3) (a.nts + 3) (omega arith),
       lengths_count r,
       lt-leb (r.count + 1) 3 (omega arith),
       c.not_late-then-segs-gt-MAX_SIDE_REL.ensures,
@@ -40,15 +37,13 @@ returns-then-segs-gt-MAX_SIDE_REL c =
 
 pub returns : goal.returns
 returns c =
-    let q = c in
-    let p = q in
-    let a = p.args in
-    let r = q.even_segments-segs.result in
+    let a = c.args in
+    let r = c.even_segments-segs.result in
     rw (
-      late_from_lem a.s a.lead a.nts _ _ p.aligned_attack-sp.ensures.0 (lengths_list q.even_segments-segs.ensures.0 (omega arith)),
+      late_from_lem a.s a.lead a.nts _ _ c.aligned_attack-sp.ensures.0 (lengths_list c.even_segments-segs.ensures.0 (omega arith)),
       lt-ltb 0 a.lead (omega arith),
-      le-leb a.nts (p.aligned_attack-sp.result + 2) (omega arith),
-      le-leb (p.aligned_attack-sp.result + 3) (a.nts + 3) (omega arith),
+      le-leb a.nts (c.aligned_attack-sp.result + 2) (omega arith),
+      le-leb (c.aligned_attack-sp.result + 3) (a.nts + 3) (omega arith),
       lengths_count r,
       le-leb (r.count + 1) 3 (omega arith),
       c.late_grid.ensures,

@@ -6,7 +6,7 @@ use Rattle.sbr_attack.proofs.late_grid.Goals as goal
 
 pub returns : goal.returns
 returns c =
-    let p = c in
-    let s = p.args.segs in
+    let s = c.args.segs in
+    -- the lengths handed in have four places
     let g : length s.slots ≡ 4 = omega arith in
-    rw (c.varvar_grid.ensures, pushed_list s 2 p.push.ensures.0 (omega arith), lengths_list c.none.ensures.0 (omega arith))
+    rw (c.varvar_grid.ensures, pushed_list s 2 c.push.ensures.0 (omega arith), lengths_list c.none.ensures.0 (omega arith))

@@ -4,5 +4,4 @@ use Rattle.sbr_attack.proofs.near_double.Goals as goal
 
 pub returns : goal.returns
 returns c =
-    let b = c in
-    rw (c.varvar_grid.ensures, lengths_list b.two-2.ensures.0 (omega arith), lengths_list b.two.ensures.0 (omega arith))
+    rw (c.varvar_grid.ensures, lengths_list c.two-2.ensures.0 (omega arith), lengths_list c.two.ensures.0 (omega arith))

@@ -8,8 +8,7 @@ use Rattle.sbr_attack.proofs.varfix_segs.Goals as goal
 pub returns-then-span-le8 : goal.returns-then-span-le8
 unfolding varfix_segs
 returns-then-span-le8 c =
-    let b = c in
-    (rw (le-leb _ 8 b.if-span-le8.true) (lengths_push _ _ b.none.ensures.0 (omega arith) c.push.ensures.0), search rules, search rules)
+    (rw (le-leb _ 8 c.if-span-le8.true) (lengths_push _ _ c.none.ensures.0 (omega arith) c.push.ensures.0), search rules, search rules)
 
 pub returns : goal.returns
 unfolding varfix_segs
