@@ -7,13 +7,12 @@ use Rattle.sbr_search.proofs.isolated_borders.Goals as goal
 
 pub loop-i-preserved : goal.loop-i-preserved
 loop-i-preserved c =
-    let s = c in
-    let o = s.args.onsets in (
+    let o = c.args.onsets in (
       omega arith,
       omega arith,
-      simp length-set s.loop-i.invariant.2,
-      bare-next s.loop-i.invariant.3 _ (omega (arith, first-length 0 o.count o.slot)) (omega arith)
-          (first-get_or 0 o.count s.loop-i.i o.slot (omega arith)),
+      simp length-set c.loop-i.invariant.2,
+      bare-next c.loop-i.invariant.3 _ (omega (arith, first-length 0 o.count o.slot)) (omega arith)
+          (first-get_or 0 o.count c.loop-i.i o.slot (omega arith)),
     )
 
 pub returns-clause-result_value : goal.returns-clause-result_value

@@ -40,6 +40,7 @@ isolated_borders-with_isolating-requires c =
     let b = bounds _ _ c.args.onsets c.requires.0 in
     (c.requires.1, b.few, omega (arith, first_onset _ _ c.args.onsets c.requires.0 c.requires.1))
 
+-- the borders with the isolating one are in the frame
 pub varvar_from_borders-isolated-requires : goal.varvar_from_borders-isolated-requires
 varvar_from_borders-isolated-requires c =
     let f = bounds _ _ c.args.onsets c.requires.0 in
@@ -63,6 +64,7 @@ returns-then-not-is_cheaper c =
 pub bare_borders-without-requires : goal.bare_borders-without-requires
 bare_borders-without-requires c = (bounds _ _ c.args.onsets c.requires.0).few
 
+-- the borders without it are in the frame
 pub varvar_from_borders-plain-requires : goal.varvar_from_borders-plain-requires
 varvar_from_borders-plain-requires c =
     let f = bounds _ _ c.args.onsets c.requires.0 in

@@ -27,6 +27,7 @@ pub returns-in-Leading-clause-result_value : goal.returns-in-Leading-clause-resu
 returns-in-Leading-clause-result_value c =
     let a = c.args in
     let f = fit-leading _ _ (sym c.fitting-fit.ensures ∙ c.in-Leading.is) in
+    -- the end is past the last border
     end-fit _ _ a.lead _ _ _ _ (omega (arith, c.last_border.ensures a.lead))
     (sym (beat (a.cost + a.over) a.count a.best _ c.is_cheaper.ensures) ∙ c.if-not-is_cheaper.false) _ f
 
@@ -40,5 +41,6 @@ pub returns-in-NoFit-clause-result_value : goal.returns-in-NoFit-clause-result_v
 returns-in-NoFit-clause-result_value c =
     let a = c.args in
     let f = fit_nothing _ (sym c.fitting-fit.ensures ∙ c.in-NoFit.is) in
+    -- the end is past the last border
     end-unfit _ _ a.lead _ _ _ _ (omega (arith, c.last_border.ensures a.lead))
     (sym (beat (a.cost + a.over) a.count a.best _ c.is_cheaper.ensures) ∙ c.if-not-is_cheaper.false) f

@@ -12,6 +12,7 @@ returns-then-not-is_cheaper-clause-result_value c =
 pub returns-then-not-rises_from-clause-result_value : goal.returns-then-not-rises_from-clause-result_value
 returns-then-not-rises_from-clause-result_value c =
     let a = c.args in
+    -- the borders of the shifts, as a list
     shifts-fall _ _ _ _ _ _ (places_back a.w.count a.w.border a.shifts _ c.requires.0.few c.borders_of-borders.ensures.value)
     (sym c.rises_from.ensures ∙ c.if-not-rises_from.true)
 
@@ -23,5 +24,6 @@ loop-over-preserved c =
 pub returns-clause-result_value : goal.returns-clause-result_value
 returns-clause-result_value c =
     let a = c.args in
+    -- the borders of the shifts, as a list
     shifts-rise _ _ _ _ _ _ (places_back a.w.count a.w.border a.shifts _ c.requires.0.few c.borders_of-borders.ensures.value) _ _
     (sym c.rises_from.ensures ∙ c.if-not-rises_from.false) c.cost_of-cost.ensures.0 (ends-end 4 _ _ _ _ _ _ _ _ (omega arith) c.loop-over.invariant.2)
