@@ -39,7 +39,7 @@ pub enum Made {
 }
 
 // The frames that the lines so far have made.
-#[derive(Drop)]
+#[derive(Clone, Copy)]
 struct Frames {
     num_time_slots: usize,
     count: usize,
