@@ -42,6 +42,11 @@ even_by_lem v a b lead n o (suc k) e h =
 pub even_same : (v a b : Bool) (lead n : ℕ) (o : Onsets) → (o.count ≡ 0 → a ≡ b) → chosen_grid v a (onset_list o) lead n ≡ chosen_grid v b (onset_list o) lead n
 even_same v a b lead n o h = even_by_lem v a b lead n o o.count refl h
 
+-- so too of the record of such a grid
+pub even_of : (v a b : Bool) (lead n : ℕ) (o : Onsets) (r : SbrGrid) → r ≡ record_of (chosen_grid v a (onset_list o) lead n) → (o.count ≡ 0 → a ≡ b)
+    → r ≡ record_of (chosen_grid v b (onset_list o) lead n)
+even_of v a b lead n o r e h = e ∙ ap record_of (even_same v a b lead n o h)
+
 -- there is an onset where the count is above 0
 pub some_onset : (k : ℕ) (xs : List ℕ) → ltb 0 k ≡ has_onset (first 0 k xs)
 some_onset zero xs = refl

@@ -12,10 +12,9 @@ use Rattle.sbr_grid.proofs.Slots.{slot_range}
 use Rattle.sbr_build.specs.Cases.{onset_list}
 use Rattle.sbr_onsets.proofs.Onsets.{onsets_listed}
 use Rattle.sbr_onsets.proofs.OnsetLead.{frame_case}
-use Rattle.sbr_encoder.proofs.Choices.{even_same, some_onset}
+use Rattle.sbr_encoder.proofs.Choices.{even_of, some_onset}
 use Rattle.sbr_encoder.specs.Election.{has_onset}
 use Rattle.sbr_encoder.proofs.choose.Goals as goal
-use Rattle.sbr_encoder.proofs.choose.Goals.{then-onsets-eq0, else-onsets-eq0}
 
 pub onsets_of-onsets-requires : goal.onsets_of-onsets-requires
 onsets_of-onsets-requires c = (slot_range _ c.requires).1
@@ -46,15 +45,10 @@ returns c =
     let lead_is : c.lead_of-lead.result ≡ lead_for c.args.num_time_slots c.args.t_e_last_prev = rw (to_z-of_z w32 _ c.ranges.t_e_last_prev) at c.lead_of-lead.ensures in
     let o = c.onsets_of-onsets in
     let a = c.args in
-    -- where there is no onset, the halves were compared
-    let alike : o.result.count ≡ 0 → c.if-onsets-eq0.even ≡ halves_alike energy a.num_time_slots = λ z. elim c.if-onsets-eq0.branch [
-      | then-onsets-eq0 w ↦ w.even-is ∙ w.halves_alike-even.ensures
-      | else-onsets-eq0 w ↦ absurd (w.if-onsets-eq0.false z)
-    ] in
     record {
       grid_value =
-          c.choose_grid.ensures
-          ∙ ap record_of (even_same a.variable_borders c.if-onsets-eq0.even (halves_alike energy a.num_time_slots) c.lead_of-lead.result a.num_time_slots o.result alike)
+          -- where there is no onset, the halves were compared
+          even_of a.variable_borders _ (halves_alike energy a.num_time_slots) c.lead_of-lead.result a.num_time_slots o.result _ c.choose_grid.ensures (λ z. grind arith)
           ∙ (λ i. record_of (chosen_grid a.variable_borders (halves_alike energy a.num_time_slots) (listed i) (lead_is i) a.num_time_slots));
       transient_value = some_onset o.result.count o.result.slot ∙ ap has_onset listed;
     }
