@@ -87,26 +87,26 @@ pub fn frame_number(grid: SbrGrid, time: TimeGrid, begins_on_attack: bool) -> u6
     with_digit(borders, mark_number(time.l_a))
 }
 
-pub fn print_frame(grid: SbrGrid, time: TimeGrid) {
+pub fn print_frame(rt: &impl Print, grid: SbrGrid, time: TimeGrid) {
     let class = grid.frame_class;
     let freq_res = grid.freq_res;
-    case_io::print_class(class);
-    case_io::print_times(time);
-    case_io::print(b" / ");
-    case_io::print_resolutions(freq_res, grid.num_env);
+    case_io::print_class(rt, class);
+    case_io::print_times(rt, time);
+    case_io::print(rt, b" / ");
+    case_io::print_resolutions(rt, freq_res, grid.num_env);
 }
 
 // Whether a frame begins on an attack.
-pub fn print_begins(begins_on_attack: bool) {
+pub fn print_begins(rt: &impl Print, begins_on_attack: bool) {
     if begins_on_attack {
-        case_io::print(b" begins on an attack");
+        case_io::print(rt, b" begins on an attack");
     }
 }
 
 // A position, a carried border and the flag beside it.
-pub fn print_place(place: Place) {
+pub fn print_place(rt: &impl Print, place: &Place) {
     let carried = place.carried;
-    case_io::print_field(b" at ", place.position as u64);
-    case_io::print_signed(b" border ", carried.border);
-    case_io::print_flag(b" attack ", carried.attack);
+    case_io::print_field(rt, b" at ", place.position as u64);
+    case_io::print_signed(rt, b" border ", carried.border);
+    case_io::print_flag(rt, b" attack ", carried.attack);
 }
