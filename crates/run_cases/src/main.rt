@@ -4,7 +4,6 @@
 
 ghost use Rattle.std.specs.Prelude.{◌≡◌, ◌≤◌, length};
 
-use libc::STDIN_FILENO;
 use sbr_envelopes::Estimated;
 use sbr_grid::{Answer, SbrGrid, TimeGrid};
 use sbr_reader::Carried;
@@ -50,14 +49,21 @@ fn keep(number: u64, numbers: &mut [u64; MAX_FRAMES], frames: usize) -> usize {
 }
 
 // A frame, how many numbers its rows hold, and whether it begins on an attack.
-fn print_whole(grid: SbrGrid, time: TimeGrid, count: usize, begins_on_attack: bool) {
-    run_lines::print_frame(grid, time);
-    case_io::print_field(b" rows ", count as u64);
-    run_lines::print_begins(begins_on_attack);
+fn print_whole(
+    rt: &impl Print,
+    grid: SbrGrid,
+    time: TimeGrid,
+    count: usize,
+    begins_on_attack: bool,
+) {
+    run_lines::print_frame(rt, grid, time);
+    case_io::print_field(rt, b" rows ", count as u64);
+    run_lines::print_begins(rt, begins_on_attack);
 }
 
 // Prints a frame that is sent, and keeps its number. It begins on an attack where the frame before it has left the flag set.
 fn sent(
+    rt: &impl Print,
     x: &[f64],
     high: &[u8],
     low: &[u8],
@@ -71,10 +77,10 @@ fn sent(
     let time = sending.time;
     let place = sending.place;
     let count = rows(x, high, low, grid, num_time_slots);
-    case_io::print(b"sent ");
-    print_whole(grid, time, count, begins_on_attack);
-    case_io::print_flag(b" transient ", sending.transient);
-    run_lines::print_place(place);
+    case_io::print(rt, b"sent ");
+    print_whole(rt, grid, time, count, begins_on_attack);
+    case_io::print_flag(rt, b" transient ", sending.transient);
+    run_lines::print_place(rt, &place);
     let number = run_lines::frame_number(grid, time, begins_on_attack);
     let frames = keep(number, numbers, frames);
     Stepped { place, frames }
@@ -82,18 +88,20 @@ fn sent(
 
 // Reads the samples of a turn, makes it and prints it; keeps the number of the frame that it sends.
 fn turn(
+    rt: &(impl Input + Print),
     high: &[u8],
     low: &[u8],
     bytes: &mut [u8],
     numbers: &mut [u64; MAX_FRAMES],
     from: Stepped,
 ) -> Stepped {
-    let num_time_slots = case_io::next_number(8) as usize;
-    let variable = case_io::next_flag();
+    let num_time_slots = case_io::next_number(rt, 8) as usize;
+    let variable = case_io::next_flag(rt);
     let mut x = case_io::silence();
-    let samples = case_io::read_samples(&mut x);
+    let samples = case_io::read_samples(rt, &mut x);
     let start = from.place;
     let frames = from.frames;
+    let begins = start.carried.attack;
     let sending = sbr_run::send_frame(
         &x[..samples],
         high,
@@ -105,43 +113,48 @@ fn turn(
     );
     let answer = sending.answer;
     match answer {
-        Answer::Given => {
-            let begins = start.carried.attack;
-            sent(
-                &x,
-                high,
-                low,
-                num_time_slots,
-                sending,
-                begins,
-                numbers,
-                frames,
-            )
-        }
+        Answer::Given => sent(
+            rt,
+            &x,
+            high,
+            low,
+            num_time_slots,
+            sending,
+            begins,
+            numbers,
+            frames,
+        ),
         Answer::Refused(why) => {
             let place = sending.place;
-            case_io::print(b"turn ");
-            case_io::print_refusal(why);
+            case_io::print(rt, b"turn ");
+            case_io::print_refusal(rt, why);
             Stepped { place, frames }
         }
     }
 }
 
 // Prints whether the frame that is read is the one that was sent, and answers how many are read.
-fn compare(number: u64, numbers: &[u64; MAX_FRAMES], sent: usize, frames: usize) -> usize {
+fn compare(
+    rt: &impl Print,
+    number: u64,
+    numbers: &[u64; MAX_FRAMES],
+    sent: usize,
+    frames: usize,
+) -> usize {
     if MAX_FRAMES <= frames {
         return frames;
     }
     if frames < sent && numbers[frames] == number {
-        case_io::print(b" as sent");
+        case_io::print(rt, b" as sent");
     } else {
-        case_io::print(b" NOT AS SENT");
+        case_io::print(rt, b" NOT AS SENT");
     }
     frames + 1
 }
 
 // Prints a frame that is read, and whether it is the one that was sent.
 fn received(
+    rt: &impl Print,
     high: &[u8],
     low: &[u8],
     num_time_slots: usize,
@@ -156,16 +169,17 @@ fn received(
     let x = case_io::silence();
     let count = rows(&x, high, low, grid, num_time_slots);
     let begins_on_attack = receiving.begins_on_attack;
-    case_io::print(b"read ");
-    print_whole(grid, time, count, begins_on_attack);
-    run_lines::print_place(place);
+    case_io::print(rt, b"read ");
+    print_whole(rt, grid, time, count, begins_on_attack);
+    run_lines::print_place(rt, &place);
     let number = run_lines::frame_number(grid, time, begins_on_attack);
-    let frames = compare(number, numbers, sent, frames);
+    let frames = compare(rt, number, numbers, sent, frames);
     Stepped { place, frames }
 }
 
 // Makes a reading and prints it, and whether it gives the frame that was sent.
 fn reading(
+    rt: &(impl Input + Print),
     high: &[u8],
     low: &[u8],
     bytes: &[u8],
@@ -173,26 +187,35 @@ fn reading(
     sent: usize,
     from: Stepped,
 ) -> Stepped {
-    let num_time_slots = case_io::next_number(8) as usize;
+    let num_time_slots = case_io::next_number(rt, 8) as usize;
     let start = from.place;
     let frames = from.frames;
     let receiving = sbr_run::receive_frame(bytes, num_time_slots, start);
     let answer = receiving.answer;
     match answer {
-        Answer::Given => received(high, low, num_time_slots, receiving, numbers, sent, frames),
+        Answer::Given => received(
+            rt,
+            high,
+            low,
+            num_time_slots,
+            receiving,
+            numbers,
+            sent,
+            frames,
+        ),
         Answer::Refused(why) => {
             let place = receiving.place;
-            case_io::print(b"reading ");
-            case_io::print_refusal(why);
+            case_io::print(rt, b"reading ");
+            case_io::print_refusal(rt, why);
             Stepped { place, frames }
         }
     }
 }
 
 // Reads a byte, and puts it into the range.
-fn change(bytes: &mut [u8], at: usize) {
-    let byte = case_io::next_byte();
-    case_io::print(b"byte changed\n");
+fn change(rt: &(impl Input + Print), bytes: &mut [u8], at: usize) {
+    let byte = case_io::next_byte(rt);
+    case_io::print(rt, b"byte changed\n");
     if bytes.len() <= at {
         return;
     }
@@ -201,6 +224,7 @@ fn change(bytes: &mut [u8], at: usize) {
 
 // A turn, a reading or a changed byte, and its line.
 fn step(
+    rt: &(impl Input + Print),
     high: &[u8],
     low: &[u8],
     bytes: &mut [u8],
@@ -209,39 +233,62 @@ fn step(
 ) -> Ends
     requires { 2000 ≤ length bytes.old }
 {
-    let kind = case_io::next_byte();
-    let lent = case_io::next_count(MAX_BYTES);
+    let kind = case_io::next_byte(rt);
+    let lent = case_io::next_count(rt, MAX_BYTES);
     let sender = ends.sender;
     let receiver = ends.receiver;
     if kind == 1 {
-        let sender = turn(high, low, &mut bytes[..lent], numbers, sender);
-        case_io::print(b"\n");
+        let sender = turn(rt, high, low, &mut bytes[..lent], numbers, sender);
+        case_io::print(rt, b"\n");
         return Ends { sender, receiver };
     }
     if kind == 3 {
-        change(bytes, lent);
-        return ends;
+        change(rt, bytes, lent);
+        return Ends { sender, receiver };
     }
-    let receiver = reading(high, low, &bytes[..lent], numbers, sender.frames, receiver);
-    case_io::print(b"\n");
+    let receiver = reading(
+        rt,
+        high,
+        low,
+        &bytes[..lent],
+        numbers,
+        sender.frames,
+        receiver,
+    );
+    case_io::print(rt, b"\n");
     Ends { sender, receiver }
 }
 
+// An end of a run before its first turn or reading.
+fn at_start(start: &Place) -> Stepped {
+    let carried = start.carried;
+    Stepped {
+        place: Place {
+            carried,
+            position: start.position,
+        },
+        frames: 0,
+    }
+}
+
 // Every turn, reading and changed byte of a run.
-fn steps(count: usize, high: &[u8], low: &[u8], bytes: &mut [u8], start: Place) -> Ends
+fn steps(
+    rt: &(impl Input + Print),
+    count: usize,
+    high: &[u8],
+    low: &[u8],
+    bytes: &mut [u8],
+    start: Place,
+) -> Ends
     requires { 2000 ≤ length bytes.old }
 {
     let mut numbers = [0u64; MAX_FRAMES];
-    let first = Stepped {
-        place: start,
-        frames: 0,
-    };
     let mut ends = Ends {
-        sender: first,
-        receiver: first,
+        sender: at_start(&start),
+        receiver: at_start(&start),
     };
     for _ in 0..count {
-        ends = step(high, low, bytes, &mut numbers, ends);
+        ends = step(rt, high, low, bytes, &mut numbers, ends);
     }
     ends
 }
@@ -254,16 +301,16 @@ fn filled(byte: u8) -> [u8; MAX_BYTES]
 }
 
 // Makes the steps of a run, and prints how many frames it sent and read, and every byte of its range.
-fn print_steps(count: usize, high: &[u8], low: &[u8], start: Place) {
-    let mut bytes = filled(case_io::next_byte());
-    let ends = steps(count, high, low, &mut bytes, start);
+fn print_steps(rt: &(impl Input + Print), count: usize, high: &[u8], low: &[u8], start: Place) {
+    let mut bytes = filled(case_io::next_byte(rt));
+    let ends = steps(rt, count, high, low, &mut bytes, start);
     let sender = ends.sender;
     let receiver = ends.receiver;
-    case_io::print_field(b"run: ", sender.frames as u64);
-    case_io::print_field(b" sent, ", receiver.frames as u64);
-    case_io::print(b" read, bytes ");
-    case_io::print_bytes(&bytes);
-    case_io::print(b"\n");
+    case_io::print_field(rt, b"run: ", sender.frames as u64);
+    case_io::print_field(rt, b" sent, ", receiver.frames as u64);
+    case_io::print(rt, b" read, bytes ");
+    case_io::print_bytes(rt, &bytes);
+    case_io::print(rt, b"\n");
 }
 
 // The number of two bytes.
@@ -272,9 +319,9 @@ fn number_of(low: u8, high: u8) -> usize {
 }
 
 // Reads where a run starts.
-fn next_place() -> Place {
-    let border = case_io::next_signed();
-    let position = case_io::next_number(8) as usize;
+fn next_place(rt: &impl Input) -> Place {
+    let border = case_io::next_signed(rt);
+    let position = case_io::next_number(rt, 8) as usize;
     Place {
         carried: Carried::start(border),
         position,
@@ -282,17 +329,18 @@ fn next_place() -> Place {
 }
 
 // One run; false at the end of the input.
-fn print_run() -> bool {
+fn print_run(rt: &(impl Input + Print)) -> bool {
     let mut count = [0u8; 2];
-    if io::read_full(STDIN_FILENO, &mut count) < 2 {
+    if case_io::read_full(rt, &mut count) < 2 {
         return false;
     }
-    let start = next_place();
+    let start = next_place(rt);
     let mut high = [0u8; case_io::MAX_TABLE];
-    let high_len = case_io::read_table(&mut high);
+    let high_len = case_io::read_table(rt, &mut high);
     let mut low = [0u8; case_io::MAX_TABLE];
-    let low_len = case_io::read_table(&mut low);
+    let low_len = case_io::read_table(rt, &mut low);
     print_steps(
+        rt,
         number_of(count[0], count[1]),
         &high[..high_len],
         &low[..low_len],
@@ -302,9 +350,9 @@ fn print_run() -> bool {
 }
 
 // Every run. Nothing says that an input ends, so the turns count down from a number that no run uses up.
-fn main() {
+fn main(rt: HostRuntime) {
     let mut turns = u64::MAX;
-    while turns > 0 && print_run() {
+    while turns > 0 && print_run(&rt) {
         turns -= 1;
     }
 }
