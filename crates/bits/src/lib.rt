@@ -7,7 +7,7 @@ ghost use Rattle.bits.specs.Room.{end_of, room_for, placed, after_field, window_
 mod field;
 
 // Where a field was put.
-#[derive(Drop)]
+#[derive(Clone, Copy)]
 pub enum Placed {
     // The position after its last bit.
     To(usize),
@@ -16,7 +16,7 @@ pub enum Placed {
 }
 
 // Bits as a number: the `width` low bits of `value`.
-#[derive(Clone, Copy, Drop)]
+#[derive(Clone, Copy)]
 pub struct Window {
     pub value: u32,
     pub width: u32,

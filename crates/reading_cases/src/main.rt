@@ -6,7 +6,7 @@ use sbr_reader::Carried;
 use sbr_run::{Place, Receiving};
 
 // The frame that is read, and whether it begins on an attack.
-fn print_read(rt: &impl Print, receiving: &Receiving) {
+fn print_read(rt: &impl Print, receiving: Receiving) {
     let grid = receiving.grid;
     let time = receiving.time;
     case_io::print(rt, b"read ");
@@ -21,14 +21,14 @@ fn print_reading(rt: &(impl Input + Print), bytes: &[u8], from: Place) -> Place 
     let receiving = sbr_run::receive_frame(&bytes[..lent], num_time_slots, from);
     let answer = receiving.answer;
     match answer {
-        Answer::Given => print_read(rt, &receiving),
+        Answer::Given => print_read(rt, receiving),
         Answer::Refused(why) => {
             case_io::print(rt, b"reading ");
             case_io::print_refusal(rt, why);
         }
     }
     let place = receiving.place;
-    run_lines::print_place(rt, &place);
+    run_lines::print_place(rt, place);
     case_io::print(rt, b"\n");
     place
 }

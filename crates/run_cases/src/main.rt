@@ -17,14 +17,14 @@ const MAX_FRAMES: usize = 500;
 const MAX_ROOM: usize = 400;
 
 // Where a run stands after a turn or a reading, and how many frames it has sent or read.
-#[derive(Drop)]
+#[derive(Clone, Copy)]
 struct Stepped {
     place: Place,
     frames: usize,
 }
 
 // The transmitter and the receiver of a run.
-#[derive(Drop)]
+#[derive(Clone, Copy)]
 struct Ends {
     sender: Stepped,
     receiver: Stepped,
@@ -80,7 +80,7 @@ fn sent(
     case_io::print(rt, b"sent ");
     print_whole(rt, grid, time, count, begins_on_attack);
     case_io::print_flag(rt, b" transient ", sending.transient);
-    run_lines::print_place(rt, &place);
+    run_lines::print_place(rt, place);
     let number = run_lines::frame_number(grid, time, begins_on_attack);
     let frames = keep(number, numbers, frames);
     Stepped { place, frames }
@@ -101,7 +101,6 @@ fn turn(
     let samples = case_io::read_samples(rt, &mut x);
     let start = from.place;
     let frames = from.frames;
-    let begins = start.carried.attack;
     let sending = sbr_run::send_frame(
         &x[..samples],
         high,
@@ -113,17 +112,20 @@ fn turn(
     );
     let answer = sending.answer;
     match answer {
-        Answer::Given => sent(
-            rt,
-            &x,
-            high,
-            low,
-            num_time_slots,
-            sending,
-            begins,
-            numbers,
-            frames,
-        ),
+        Answer::Given => {
+            let begins = start.carried.attack;
+            sent(
+                rt,
+                &x,
+                high,
+                low,
+                num_time_slots,
+                sending,
+                begins,
+                numbers,
+                frames,
+            )
+        }
         Answer::Refused(why) => {
             let place = sending.place;
             case_io::print(rt, b"turn ");
@@ -171,7 +173,7 @@ fn received(
     let begins_on_attack = receiving.begins_on_attack;
     case_io::print(rt, b"read ");
     print_whole(rt, grid, time, count, begins_on_attack);
-    run_lines::print_place(rt, &place);
+    run_lines::print_place(rt, place);
     let number = run_lines::frame_number(grid, time, begins_on_attack);
     let frames = compare(rt, number, numbers, sent, frames);
     Stepped { place, frames }
@@ -244,7 +246,7 @@ fn step(
     }
     if kind == 3 {
         change(rt, bytes, lent);
-        return Ends { sender, receiver };
+        return ends;
     }
     let receiver = reading(
         rt,
@@ -259,18 +261,6 @@ fn step(
     Ends { sender, receiver }
 }
 
-// An end of a run before its first turn or reading.
-fn at_start(start: &Place) -> Stepped {
-    let carried = start.carried;
-    Stepped {
-        place: Place {
-            carried,
-            position: start.position,
-        },
-        frames: 0,
-    }
-}
-
 // Every turn, reading and changed byte of a run.
 fn steps(
     rt: &(impl Input + Print),
@@ -283,9 +273,13 @@ fn steps(
     requires { 2000 ≤ length bytes.old }
 {
     let mut numbers = [0u64; MAX_FRAMES];
+    let first = Stepped {
+        place: start,
+        frames: 0,
+    };
     let mut ends = Ends {
-        sender: at_start(&start),
-        receiver: at_start(&start),
+        sender: first,
+        receiver: first,
     };
     for _ in 0..count {
         ends = step(rt, high, low, bytes, &mut numbers, ends);

@@ -104,7 +104,7 @@ pub fn print_begins(rt: &impl Print, begins_on_attack: bool) {
 }
 
 // A position, a carried border and the flag beside it.
-pub fn print_place(rt: &impl Print, place: &Place) {
+pub fn print_place(rt: &impl Print, place: Place) {
     let carried = place.carried;
     case_io::print_field(rt, b" at ", place.position as u64);
     case_io::print_signed(rt, b" border ", carried.border);

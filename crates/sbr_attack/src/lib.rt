@@ -11,25 +11,25 @@ ghost use Rattle.sbr_attack.specs.Attack.{even_segments, aligned_attack, late_at
 use sbr_build::Lengths;
 use sbr_grid::{FrameClass, SbrGrid};
 
-#[derive(Clone, Copy, Drop)]
+#[derive(Clone, Copy)]
 pub enum LateAttack {
     Late,
     NotLate,
 }
 
-#[derive(Clone, Copy, Drop)]
+#[derive(Clone, Copy)]
 pub struct LateGrid {
     pub answer: LateAttack,
     pub grid: SbrGrid,
 }
 
-#[derive(Clone, Copy, Drop)]
+#[derive(Clone, Copy)]
 pub enum DoubleAttack {
     Double,
     NotDouble,
 }
 
-#[derive(Clone, Copy, Drop)]
+#[derive(Clone, Copy)]
 pub struct DoubleGrid {
     pub answer: DoubleAttack,
     pub grid: SbrGrid,

@@ -11,14 +11,14 @@ use sbr_build::Lengths;
 use sbr_grid::SbrGrid;
 
 // A wanted border: an onset, which may move one slot earlier, or the isolating border, which may move one slot either way.
-#[derive(Clone, Copy, Drop)]
+#[derive(Clone, Copy)]
 pub struct WantedBorder {
     pub slot: u32,
     pub onset: bool,
 }
 
 // The wanted borders, the first `count` places.
-#[derive(Clone, Copy, Drop)]
+#[derive(Clone, Copy)]
 pub struct Wanted {
     pub count: usize,
     pub border: [WantedBorder; Wanted::MAX_WANTED],
@@ -30,21 +30,21 @@ impl Wanted {
 }
 
 // Whether there are further shifts.
-#[derive(Clone, Copy, Drop)]
+#[derive(Clone, Copy)]
 pub enum Further {
     Next,
     Last,
 }
 
 // The shifts to go on with; zeros after the last.
-#[derive(Clone, Copy, Drop)]
+#[derive(Clone, Copy)]
 pub struct NextShifts {
     pub shifts: [u32; Wanted::MAX_WANTED],
     pub further: Further,
 }
 
 // Whether some count of leading lengths reaches every border.
-#[derive(Clone, Copy, Drop)]
+#[derive(Clone, Copy)]
 pub enum Fit {
     Leading(usize),
     NoFit,

@@ -9,7 +9,7 @@ ghost use Rattle.sbr_build.specs.Build.{length_list, lengths_of, pushed, raw, gr
 use sbr_grid::{FrameClass, SbrGrid};
 
 // The onset slots of a frame, the first `count` places.
-#[derive(Clone, Copy, Drop)]
+#[derive(Clone, Copy)]
 pub struct Onsets {
     pub count: usize,
     pub slot: [u32; Onsets::MAX_ONSETS],
@@ -21,7 +21,7 @@ impl Onsets {
 }
 
 // Lengths in slots, the first `count` places.
-#[derive(Clone, Copy, Drop)]
+#[derive(Clone, Copy)]
 pub struct Lengths {
     pub count: usize,
     pub slots: [u8; SbrGrid::MAX_REL_BORD],

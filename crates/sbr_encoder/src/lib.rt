@@ -18,7 +18,7 @@ ghost use Rattle.sbr_encoder.specs.Election.{has_onset, resolved, elected_of, el
 use sbr_grid::{Answer, FrameClass, Refusal, SbrGrid};
 
 // A grid, and whether the frame has an onset.
-#[derive(Drop)]
+#[derive(Clone, Copy)]
 pub struct Election {
     pub answer: Answer,
     pub grid: SbrGrid,
@@ -26,7 +26,7 @@ pub struct Election {
 }
 
 // A grid before its resolutions are elected, and whether the frame has an onset.
-#[derive(Drop)]
+#[derive(Clone, Copy)]
 struct Choice {
     grid: SbrGrid,
     transient: bool,

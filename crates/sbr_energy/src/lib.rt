@@ -8,7 +8,7 @@ ghost use Rattle.sbr_energy.specs.Energy.{band_sum, slot_energies};
 mod samples;
 
 // The sums of the columns c, d, e and f.
-#[derive(Drop)]
+#[derive(Clone, Copy)]
 pub struct Sums {
     pub c: f64,
     pub d: f64,

@@ -14,7 +14,7 @@ ghost use Rattle.sbr_envelopes.specs.Envelopes.{rows, rows_length, fitted, rows_
 use sbr_grid::{Answer, Refusal, SbrGrid, TimeGrid};
 
 // How many numbers the rows hold.
-#[derive(Drop)]
+#[derive(Clone, Copy)]
 pub enum Estimated {
     Count(usize),
     Refused(Refusal),

@@ -111,6 +111,7 @@ impl SbrGrid {
 const PTR_BITS: [u32; SbrGrid::MAX_NUM_ENV] = [1, 2, 2, 3, 3];
 
 // The width of bs_pointer; 0 for a count that no grid has.
+#[tactic(auto, using(crate::proofs::Widths::width_none, crate::proofs::Widths::width_over, crate::proofs::Widths::width_at))]
 pub fn ptr_bits(num_env: usize) -> u32
     ensures { result ≡ table_width num_env }
 {
@@ -209,6 +210,7 @@ impl TimeGrid {
 }
 
 // numTimeSlots: 16 for core frames of 1024 samples, 15 for those of 960.
+#[tactic(auto, unfolding(crate::specs::Times::is_slot_count))]
 pub fn is_slot_count(num_time_slots: usize) -> bool
     ensures { result ≡ is_slot_count num_time_slots }
 {

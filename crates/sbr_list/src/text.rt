@@ -8,7 +8,7 @@ ghost use Rattle.sbr_list.specs.Line.{line_of, with_text, Small, ShortTimes, Sho
 use sbr_grid::{FrameClass, Refusal, SbrGrid, TimeGrid};
 
 // A text of at most Line::SIZE bytes.
-#[derive(Drop)]
+#[derive(Clone, Copy)]
 pub struct Line {
     pub bytes: [u8; Line::SIZE],
     // How many of the bytes are the text.

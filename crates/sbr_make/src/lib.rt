@@ -30,7 +30,7 @@ pub const MAX_TEXT: usize = 65535;
 const SLOTS: usize = 16;
 
 // What a text makes.
-#[derive(Drop)]
+#[derive(Clone, Copy)]
 pub enum Made {
     // A stream of that many bytes.
     Stream(usize),
@@ -51,14 +51,14 @@ struct Frames {
 }
 
 // What a line adds to them, or why it adds nothing.
-#[derive(Drop)]
+#[derive(Clone, Copy)]
 struct Added {
     answer: Answer,
     frames: Frames,
 }
 
 // All lines have been read, or one is refused.
-#[derive(Drop)]
+#[derive(Clone, Copy)]
 enum Framed {
     All(Frames),
     Stopped(usize, Refusal),

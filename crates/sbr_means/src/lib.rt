@@ -8,7 +8,7 @@ ghost use Rattle.sbr_bands.specs.Tables.{spans_from};
 ghost use Rattle.sbr_means.specs.Means.{Bands, mean_in};
 
 // The sums of two bands.
-#[derive(Drop)]
+#[derive(Clone, Copy)]
 struct Pair {
     a: f64,
     b: f64,

@@ -20,7 +20,7 @@ const MAX_BORDER: i32 = 19;
 const MAX_MARK: i32 = SbrGrid::MAX_NUM_ENV as i32;
 
 // A record, or why there is none.
-#[derive(Drop)]
+#[derive(Clone, Copy)]
 pub struct Named {
     pub answer: Answer,
     pub grid: SbrGrid,

@@ -18,7 +18,7 @@ const REL_BITS: u32 = 2 * SbrGrid::MAX_REL_BORD as u32;
 const RES_BITS: u32 = SbrGrid::MAX_NUM_ENV as u32;
 
 // A record, with the number of bits that are left.
-#[derive(Drop)]
+#[derive(Clone, Copy)]
 pub struct Parsed {
     pub answer: Answer,
     pub grid: SbrGrid,
@@ -26,7 +26,7 @@ pub struct Parsed {
 }
 
 // Two numbers of two bits each, and the bits behind them.
-#[derive(Drop)]
+#[derive(Clone, Copy)]
 struct Two {
     first: u8,
     second: u8,

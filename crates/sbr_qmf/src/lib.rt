@@ -6,7 +6,7 @@ ghost use Rattle.sbr_grid.specs.Times.{is_slot_count};
 ghost use Rattle.sbr_qmf.specs.Qmf.{norm_sqr, samples_needed};
 
 // A sample's real and imaginary part.
-#[derive(Drop)]
+#[derive(Clone, Copy)]
 pub struct Complex {
     pub re: f64,
     pub im: f64,

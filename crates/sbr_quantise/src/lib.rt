@@ -30,7 +30,7 @@ const MAX_COARSE: u8 = 63;
 const MAX_FINE: u8 = 127;
 
 // An energy as 64 times 2 to the power `octave` times 1 + part / PARTS.
-#[derive(Drop)]
+#[derive(Clone, Copy)]
 struct Scaled {
     octave: u64,
     part: u64,

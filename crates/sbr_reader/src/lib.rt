@@ -9,7 +9,7 @@ ghost use Rattle.sbr_reader.specs.Read.{starting, left_by, read_grid, frame_read
 use sbr_grid::{Answer, Refusal, SbrGrid, TimeGrid};
 
 // What a transmitter and a receiver carry from frame to frame.
-#[derive(Clone, Copy, Drop)]
+#[derive(Clone, Copy)]
 pub struct Carried {
     // The carried border: the last border of the frame before.
     pub border: i32,
@@ -42,7 +42,7 @@ impl Carried {
     }
 }
 
-#[derive(Drop)]
+#[derive(Clone, Copy)]
 pub struct FrameRead {
     pub answer: Answer,
     pub grid: SbrGrid,

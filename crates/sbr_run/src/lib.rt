@@ -14,13 +14,13 @@ use sbr_reader::Carried;
 use sbr_writer::Written;
 
 // What is carried from frame to frame: the last border with the flag beside it, and the bit position.
-#[derive(Drop)]
+#[derive(Clone, Copy)]
 pub struct Place {
     pub carried: Carried,
     pub position: usize,
 }
 
-#[derive(Drop)]
+#[derive(Clone, Copy)]
 pub struct Sending {
     pub answer: Answer,
     pub grid: SbrGrid,
@@ -30,7 +30,7 @@ pub struct Sending {
     pub place: Place,
 }
 
-#[derive(Drop)]
+#[derive(Clone, Copy)]
 pub struct Receiving {
     pub answer: Answer,
     pub grid: SbrGrid,

@@ -20,14 +20,14 @@ const MAX_SHIFTS: u32 = 24;
 const ISOLATION_WORTH: u32 = 2;
 
 // Whether a plan has been found, and its cost.
-#[derive(Clone, Copy, Drop)]
+#[derive(Clone, Copy)]
 pub enum Cost {
     Total(u32),
     NoTotal,
 }
 
 // The cheapest plan so far: the shifts, the slots that the end lies past the frame, the count of leading lengths.
-#[derive(Clone, Copy, Drop)]
+#[derive(Clone, Copy)]
 pub struct Cheapest {
     pub shifts: [u32; Wanted::MAX_WANTED],
     pub leading: usize,
@@ -35,13 +35,13 @@ pub struct Cheapest {
     pub cost: Cost,
 }
 
-#[derive(Clone, Copy, Drop)]
+#[derive(Clone, Copy)]
 pub enum MultiOnset {
     Planned,
     NoPlan,
 }
 
-#[derive(Clone, Copy, Drop)]
+#[derive(Clone, Copy)]
 pub struct MultiGrid {
     pub answer: MultiOnset,
     pub grid: SbrGrid,

@@ -11,7 +11,7 @@ use sbr_grid::{SbrGrid, TimeGrid};
 mod parts;
 
 // What a line is.
-#[derive(Drop)]
+#[derive(Clone, Copy)]
 pub enum Kind {
     // It has nothing but blanks.
     Blank,
@@ -23,7 +23,7 @@ pub enum Kind {
 }
 
 // What a line says: its kind, and of a frame its borders, its mark and its resolutions. Places behind a count are 0.
-#[derive(Drop)]
+#[derive(Clone, Copy)]
 pub struct TextLine {
     pub kind: Kind,
     pub borders: [i32; TextLine::MAX_BORDERS],

@@ -11,7 +11,7 @@ use sbr_grid::{Answer, FrameClass, Refusal, SbrGrid, TimeGrid};
 mod border;
 mod noise;
 
-#[derive(Drop)]
+#[derive(Clone, Copy)]
 pub struct Derived {
     pub answer: Answer,
     pub time: TimeGrid,

@@ -12,7 +12,7 @@ mod code;
 pub mod fits;
 
 // Where a record's bits end, or why none was written.
-#[derive(Drop)]
+#[derive(Clone, Copy)]
 pub enum Written {
     // The position after the last bit.
     To(usize),
