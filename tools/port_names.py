@@ -1,7 +1,7 @@
 #!/usr/bin/env python3
 """Brings the names of the repository's own definitions, record fields and lemmas to the spelling of today's Rattle: words in snake case, types and modules in camel case.
 
-usage: tools/port_names.py [--list]     at the top of the repository, once, after /opt/rattle/port/port.py
+usage: tools/port_names.py [--list]     at the top of the repository, once, after the kit's port.py
 
 Names are turned in specs/ and proofs/ (code and comments), in `ghost use` lines and clauses of src/, in must-fail edits, and between backticks in README.md and docs/.
 Functions of src/, exported names, strings, inputs and outputs keep theirs. With --list it only prints what it would turn.
