@@ -43,6 +43,11 @@ pub named_long : (n : ℕ) (zs : List ℤ) (res : List Bool) (mark : ℤ) → is
 named_long n zs res mark e l =
     (no_grid_exactly n zs res mark).no_grid.1 (e, λ g h. let k = (limits n zs res mark g h).few in omega arith)
 
+-- so are more flags than that
+pub flags_long : (n : ℕ) (zs : List ℤ) (fs : List ℕ) (mark : ℤ) → is_slot_count n ≡ true → 5 < length fs
+    → named_grid n zs (map (λ b. eqb b 1) fs) mark ≡ refused NoGrid
+flags_long n zs fs mark e l = named_long n zs (map (λ b. eqb b 1) fs) mark e (omega (arith, length-map fs (λ b. eqb b 1)))
+
 -- a record that is answered has small counts
 few_named : (n : ℕ) (zs : List ℤ) (res : List Bool) (mark : ℤ) (g : Grid) → named_grid n zs res mark ≡ answered g → Few (record_of g)
 few_named n zs res mark g h =

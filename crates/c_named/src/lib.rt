@@ -8,6 +8,7 @@ use c_values::give::NUMBERS;
 use sbr_grid::{Refusal, SbrGrid};
 
 // Refused by 1, by 5 for a flag above 1, then as `sbr_named::grid_for_borders`.
+#[tactic(auto, using(crate::proofs::Given::flagged_all, crate::proofs::Given::flags_long))]
 pub fn grid_for_borders(
     num_time_slots: u64,
     borders: &[i32],

@@ -47,6 +47,7 @@ fn attack_grid(onsets: Onsets, lead: u32, nts: u32) -> SbrGrid
 }
 
 // No variable borders but the lead.
+#[tactic(auto, unfolding(crate::specs::Choice::plain_grid))]
 fn plain_grid(num_env: usize, high: bool, lead: u32, nts: u32) -> SbrGrid
     requires { (1 ≤ num_env) × (num_env ≤ 4) × FrameBounds nts lead }
     ensures { result ≡ record_of (plain_grid num_env high lead nts) }

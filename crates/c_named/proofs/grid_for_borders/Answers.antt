@@ -6,15 +6,15 @@ use mir.Syntax.{w32}
 use mir.ValLaws.{to_z-of_z}
 use native.Mathlib.Omega.{arith}
 use lib.Dec.{leb, eqb}
-use lib.ListN.{length, take, length-map}
-use Rattle.sbr_grid.specs.declared.Refusal.TheVariants.{Record, NoGrid}
+use lib.ListN.{length, take}
+use Rattle.sbr_grid.specs.declared.Refusal.TheVariants.{Record}
 use Rattle.sbr_grid.specs.Times.{is_slot_count}
 use Rattle.sbr_writer.specs.Write.{every}
 use Rattle.sbr_named.specs.Shapes.{named_grid}
 use Rattle.sbr_named.specs.Code.{named_of}
 use Rattle.c_values.proofs.Answers.{gives-refused, gives-coded, gives-answered}
 use Rattle.c_bits.specs.Calls.{slotted}
-use Rattle.c_named.proofs.Given.{flagged_all, flags_lent, named_long, named-code, named-few, has_named}
+use Rattle.c_named.proofs.Given.{flagged_all, flags_lent, named-code, named-few, has_named}
 use Rattle.c_named.proofs.grid_for_borders.Goals as goal
 use Rattle.c_named.proofs.grid_for_borders.Goals.{After-grid_for_borders-named, Else-not-is_flagged, Else-not-is_slot_count}
 
@@ -45,15 +45,6 @@ pub returns-then-not-is_flagged : goal.returns-then-not-is_flagged
 returns-then-not-is_flagged c =
     gives-refused _ _ Record _ c.number-then-not-is_flagged.ensures
     (rw (slots_so (goal.at.returns-then-not-is_flagged c).Else-not-is_slot_count, sym (c.is_flagged.ensures ∙ flagged_all c.args.resolutions.now) ∙ c.if-not-is_flagged.true))
-
-pub returns-then-count-gt-MAX_NUM_ENV : goal.returns-then-count-gt-MAX_NUM_ENV
-returns-then-count-gt-MAX_NUM_ENV c =
-    let a = c.args in
-    let e = goal.at.returns-then-count-gt-MAX_NUM_ENV c in
-    gives-refused _ _ NoGrid _ c.number-then-count-gt-MAX_NUM_ENV.ensures
-    (named_so e.Else-not-is_slot_count e.Else-not-is_flagged
-    ∙ named_long a.num_time_slots a.borders.now (map (λ b. eqb b 1) a.resolutions.now) a.l_a (slots_so e.Else-not-is_slot_count)
-    (omega (arith, length-map a.resolutions.now (λ b. eqb b 1))))
 
 pub returns-then-code-ne0 : goal.returns-then-code-ne0
 returns-then-code-ne0 c =
