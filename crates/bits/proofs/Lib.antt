@@ -6,4 +6,3 @@ pub mod After
 pub mod Turns
 pub mod Room
 pub mod Held
-pub mod Answers

@@ -1,6 +1,6 @@
 -- What the test for room says.
 use mathlib.Core.Path.{◌≡◌, sym, ◌∙◌}
-use mathlib.Core.Bool.{true}
+use mathlib.Core.Bool.{true, false}
 use Prim.Native.Nat.{ℕ, ◌+◌, ◌-◌, ◌*◌, ◌^◌, ◌<◌, ◌≤◌}
 use native.Mathlib.Omega.{arith}
 use native.Mathlib.Decide.{dec_le}
@@ -30,3 +30,7 @@ leb_left n p e h = go (dec_le (p + n) e)
     go : Dec (p + n ≤ e) → leb n (e - p) ≡ leb (p + n) e
     go (yes k) = le-leb n (e - p) (omega arith) ∙ sym (le-leb (p + n) e k)
     go (no k) = lt-leb n (e - p) (omega arith) ∙ sym (lt-leb (p + n) e (omega arith))
+
+-- past e no bits are within it
+pub leb_past : (n p e : ℕ) → e < p → false ≡ leb (p + n) e
+leb_past n p e h = sym (lt-leb (p + n) e (omega arith))

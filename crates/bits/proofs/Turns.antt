@@ -1,10 +1,12 @@
 -- Bits of one byte read at once, and one turn of a loop that goes byte by byte.
 use mathlib.Core.Path.{◌≡◌, refl, ap, ◌∙◌}
 use mathlib.Core.Bool.{Bool}
-use mathlib.Core.List.{List, ◌++◌}
+use mathlib.Core.List.{List, [], ◌∷◌, ◌++◌}
 use Prim.Native.Nat.{ℕ, zero, suc, ◌+◌, ◌-◌, ◌*◌, ◌/◌, ◌%◌, ◌^◌, ◌<◌, ◌≤◌}
 use native.Mathlib.Nat.{add-suc}
 use native.Mathlib.Omega.{arith}
+use mir.Syntax.{w64}
+use Rattle.std.specs.Int.{from_be_bytes}
 use lib.Arith.{digits_lt}
 use lib.Pow.{pow-add, high, low}
 use lib.ListN.{length, get_or, set}
@@ -33,10 +35,6 @@ bits_byte l p n h =
 pub num_byte : (l : List ℕ) (a p n : ℕ) → n ≤ 8 - p % 8
     → num_from a (bits_at l p n) ≡ a * 2 ^ n + get_or l (p / 8) 0 / 2 ^ (8 - p % 8 - n) % 2 ^ n
 num_byte l a p n h = rw (bits_byte l p n h) (num_from_lem a n (get_or l (p / 8) 0 / 2 ^ (8 - p % 8 - n)))
-
--- the number of n bits that stand in one byte
-pub get_byte : (l : List ℕ) (p n : ℕ) → n ≤ 8 - p % 8 → num_of (bits_at l p n) ≡ get_or l (p / 8) 0 / 2 ^ (8 - p % 8 - n) % 2 ^ n
-get_byte l p n h = num_byte l 0 p n h ∙ omega arith
 
 -- one turn of a loop that puts k bits of v: n of them in the byte at p, and the rest after them
 pub put_turn : (l : List ℕ) (p n k v : ℕ) → 0 < n → n ≤ 8 - p % 8 → p / 8 < length l → n ≤ k
@@ -88,7 +86,7 @@ byte_first l a i j k h e =
 
 -- five bytes joined into one number, the first the highest
 abbrev pub five : List ℕ → ℕ → ℕ
-five l i = (((get_or l i 0 * 256 + get_or l (i + 1) 0) * 256 + get_or l (i + 2) 0) * 256 + get_or l (i + 3) 0) * 256 + get_or l (i + 4) 0
+five l i = from_be_bytes w64 (0 ∷ 0 ∷ 0 ∷ get_or l i 0 ∷ get_or l (i + 1) 0 ∷ get_or l (i + 2) 0 ∷ get_or l (i + 3) 0 ∷ get_or l (i + 4) 0 ∷ [])
 
 -- that is the number of their bits
 num_five : (l : List ℕ) (i : ℕ) → ((j : ℕ) → get_or l j 0 < 256) → num_of (bits_at l (8 * i) 40) ≡ five l i

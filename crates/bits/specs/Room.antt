@@ -1,8 +1,6 @@
 -- Where the bits of a range of bytes end, and what putting a field and looking at bits there comes to.
-use Rattle.std.specs.Prelude.{◌≡◌, Bool, cond, ◌&&◌, List, ◌++◌, ℕ, ◌+◌, ◌-◌, ◌*◌, ◌^◌, min, leb, length}
+use Rattle.std.specs.Prelude.{◌≡◌, Bool, cond, ◌&&◌, List, ◌++◌, ℕ, ◌+◌, ◌-◌, ◌*◌, ◌^◌, min, leb, length, Option, Some, None}
 use Rattle.bits.specs.Bits.{put_bits, bits_at, bits_of, num_of}
-use Rattle.bits.specs.declared.Placed.{Placed}
-use Rattle.bits.specs.declared.Placed.TheVariants.{To, NoRoom}
 use Rattle.bits.specs.declared.Window.{Window}
 
 -- the position past the last bit of len bytes; a range with more bits than the largest position ends there
@@ -25,9 +23,9 @@ Holds l p bs = (rest : List Bool) × (bits_from l p ≡ bs ++ rest)
 abbrev pub is_field_taken : ℕ → ℕ → ℕ → Bool
 is_field_taken len p w = leb w 32 && room_for len p w
 
--- the answer of putting a field, and the bytes after it
-abbrev pub placed : List ℕ → ℕ → ℕ → Placed
-placed l p w = cond (is_field_taken (length l) p w) (To (p + w)) NoRoom
+-- the answer of putting a field, the position after its last bit, and the bytes after it
+abbrev pub placed : List ℕ → ℕ → ℕ → Option ℕ
+placed l p w = cond (is_field_taken (length l) p w) (Some (p + w)) None
 
 abbrev pub after_field : List ℕ → ℕ → ℕ → ℕ → List ℕ
 after_field l p w v = cond (is_field_taken (length l) p w) (put_bits l p (bits_of w v)) l

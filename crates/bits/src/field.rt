@@ -3,7 +3,7 @@ ghost use Rattle.std.specs.Prelude.{◌≡◌, ◌+◌, ◌-◌, ◌*◌, ◌/�
 ghost use Rattle.bits.specs.Bits.{put_bits, bits_at, bits_of, num_of};
 ghost use Rattle.bits.specs.Room.{end_of};
 
-// 2 to the power k.
+// 2 to the power k. A product by it is proved to keep every bit, where a shift would drop those above.
 fn pow2(k: u32) -> u32
     requires { k < 32 }
     ensures { result ≡ 2 ^ k }
@@ -15,8 +15,7 @@ fn pow2(k: u32) -> u32
 fn in_byte(pos: usize, k: u32) -> u32
     ensures { result ≡ min (8 - pos % 8) k }
 {
-    let room = 8 - (pos % 8) as u32;
-    if room < k { room } else { k }
+    (8 - (pos % 8) as u32).min(k)
 }
 
 // How many bits of a byte stand after n bits that start at a position in it.
@@ -28,15 +27,18 @@ fn below(pos: usize, n: u32) -> u32
 }
 
 // A byte whose n bits above the k lowest are made the n lowest of v, and the k lowest cleared.
+#[tactic(auto, using(crate::proofs::Bytes::field_fits))]
 fn with_field(x: u8, k: u32, n: u32, v: u32) -> u8
     requires { k + n ≤ 8 }
     ensures { result ≡ (x / 2 ^ (k + n) * 2 ^ n + v % 2 ^ n) * 2 ^ k }
 {
     let wide = pow2(n);
-    ((x as u32 / pow2(k + n) * wide + v % wide) * pow2(k)) as u8
+    (((x as u32 >> (k + n)) * wide + v % wide) * pow2(k)) as u8
 }
 
 // The `width` low bits of a value from a position on, byte by byte; the rest of the last byte is cleared.
+// A turn takes as many bits as are left in its byte, fewer at both ends, so no range or iterator counts them.
+#[tactic(auto, unfolding(crate::specs::Room::end_of))]
 pub fn put(buf: &mut [u8], pos: usize, value: u32, width: u32)
     requires { (width ≤ 32) × (pos + width ≤ end_of (length buf.old)) }
     ensures { buf.new ≡ put_bits buf.old pos (bits_of width value) }
@@ -58,12 +60,13 @@ fn field_of(x: u8, k: u32, n: u32) -> u32
     requires { k + n ≤ 8 }
     ensures { result ≡ x / 2 ^ k % 2 ^ n }
 {
-    x as u32 / pow2(k) % pow2(n)
+    (x as u32 >> k) % pow2(n)
 }
 
-// The number of the `width` bits from a position on, byte by byte.
+// The number of the `width` bits from a position on, byte by byte: turns as in `put`.
+#[tactic(auto, unfolding(crate::specs::Room::end_of))]
 pub fn get(buf: &[u8], pos: usize, width: u32) -> u32
-    requires { (width ≤ 32) × (pos + width ≤ end_of (length buf.now)) }
+    requires { (width ≤ 32) × (width ≤ end_of (length buf.now) - pos) }
     ensures { (result ≡ num_of (bits_at buf.now pos width)) × (result < 2 ^ width) }
 {
     let mut at = pos;
@@ -79,19 +82,21 @@ pub fn get(buf: &[u8], pos: usize, width: u32) -> u32
     v
 }
 
-// Five bytes joined into one number, the first the highest.
-fn joined(a: u8, b: u8, c: u8, d: u8, e: u8) -> u64
-    ensures { result ≡ (((a * 256 + b) * 256 + c) * 256 + d) * 256 + e }
-{
-    (((a as u64 * 256 + b as u64) * 256 + c as u64) * 256 + d as u64) * 256 + e as u64
-}
-
 // The 32 bits from a position on, which lie within five bytes.
 pub fn get_32(buf: &[u8], pos: usize) -> u32
     requires { pos / 8 + 5 ≤ length buf.now }
     ensures { result ≡ num_of (bits_at buf.now pos 32) }
 {
     let i = pos / 8;
-    let five = joined(buf[i], buf[i + 1], buf[i + 2], buf[i + 3], buf[i + 4]);
+    let five = u64::from_be_bytes([
+        0,
+        0,
+        0,
+        buf[i],
+        buf[i + 1],
+        buf[i + 2],
+        buf[i + 3],
+        buf[i + 4],
+    ]);
     ((five >> (8 - pos % 8)) % 0x1_0000_0000) as u32
 }

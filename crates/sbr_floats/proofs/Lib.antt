@@ -1,4 +1,3 @@
 pub mod Powers
 pub mod Format
 pub mod Spread
-pub mod Picks

@@ -13,7 +13,7 @@ use lib.Ieee.{Float, nan, inf, fin, binary64, up, down, lt, fits}
 use lib.Ieee.Fits.{down_pos}
 use borrow.Author.Tests.{lt-ltb, le-ltb}
 use Rattle.sbr_floats.specs.Floats.{spread_is_high}
-use Rattle.sbr_floats.proofs.Powers.{mul-pow}
+use Rattle.std.proofs.lemmas.Nat.{mul-pow}
 use Rattle.sbr_floats.proofs.Format.{digits}
 
 -- one of two numbers is below the other, or not

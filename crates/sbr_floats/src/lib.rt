@@ -5,43 +5,33 @@ ghost use Rattle.std.specs.Prelude.{◌≡◌, false};
 ghost use Rattle.std.specs.Float.Ieee.{is_nan};
 ghost use Rattle.sbr_floats.specs.Floats.{max_of, min_of, mean_of, spread_is_high};
 
-// The larger number; a NaN is passed over.
+// The larger number; a NaN is passed over. Of 0 and -0 it is the first, where std's `max` may give either (tried: its contract can't tell which).
 pub fn max(a: f64, b: f64) -> f64
     ensures { result ≡ max_of a b }
 {
-    if a < b {
-        b
-    } else if a != a {
-        b
-    } else {
-        a
-    }
+    if a.is_nan() { b } else { raised(a, b) }
 }
 
-// The smaller number; a NaN is passed over.
+// The smaller number; a NaN is passed over. Of 0 and -0 it is the first, where std's `min` may give either (tried: its contract can't tell which).
 pub fn min(a: f64, b: f64) -> f64
     ensures { result ≡ min_of a b }
 {
-    if b < a {
-        b
-    } else if a != a {
-        b
-    } else {
-        a
-    }
+    if a.is_nan() { b } else { lowered(a, b) }
 }
 
 // The same two where the first is no NaN, as the largest and the smallest so far never are: one test each.
 pub fn raised(top: f64, x: f64) -> f64
     requires { is_nan top ≡ false }
-    ensures { (result ≡ max_of top x) × (is_nan result ≡ false) }
+    ensures value { result ≡ max_of top x }
+    ensures number { is_nan result ≡ false }
 {
     if top < x { x } else { top }
 }
 
 pub fn lowered(least: f64, x: f64) -> f64
     requires { is_nan least ≡ false }
-    ensures { (result ≡ min_of least x) × (is_nan result ≡ false) }
+    ensures value { result ≡ min_of least x }
+    ensures number { is_nan result ≡ false }
 {
     if x < least { x } else { least }
 }

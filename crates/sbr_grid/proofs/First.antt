@@ -5,6 +5,7 @@ use Prim.Native.Nat.{ℕ, zero, suc, ◌+◌, ◌-◌, ◌≤◌, ◌<◌}
 use native.Mathlib.Omega.{arith}
 use native.Mathlib.Nat.{sub-zero, suc-sub-suc}
 use native.Mathlib.Numerals.{add-one}
+use Rattle.std.specs.Prelude.{min, map}
 use lib.ListN.{length, get_or, take, drop, set, replicate, drop_of_length-le, get_or-eq_default}
 use lib.Seq.{drop-nil, drop-cons}
 use Rattle.sbr_grid.specs.Grid.{first}
@@ -43,6 +44,25 @@ pub first_all : {A : Type 0} (d : A) (xs : List A) → first d (length xs) xs �
 first_all d [] = refl
 first_all d (x ∷ xs) = ap {B = List _} (λ t. x ∷ t) (first_all d xs)
 
+-- at most as many as the list has are its front
+pub first_take : {A : Type 0} (d : A) (n : ℕ) (xs : List A) → n ≤ length xs → take n xs ≡ first d n xs
+first_take d zero xs h = refl
+first_take d (suc n) [] h = absurd (omega arith)
+first_take d (suc n) (x ∷ xs) h = ap {B = List _} (λ t. x ∷ t) (first_take d n xs (omega arith))
+
+-- a front of the list, k of its items, over n places that are all d
+over : {A : Type 0} (d : A) (n k : ℕ) (xs : List A) → k ≤ n → k ≤ length xs → (k < n → length xs ≤ k) → take k xs ++ drop k (replicate n d) ≡ first d n xs
+over d n zero [] h l m = sym (first_none d n)
+over d zero zero (x ∷ xs) h l m = refl
+over d (suc n) zero (x ∷ xs) h l m = absurd (omega (arith, m (omega arith)))
+over d n (suc k) [] h l m = absurd (omega arith)
+over d zero (suc k) (x ∷ xs) h l m = absurd (omega arith)
+over d (suc n) (suc k) (x ∷ xs) h l m = ap {B = List _} (λ t. x ∷ t) (over d n k xs (omega arith) (omega arith) (λ a. let b = m (omega arith) in omega arith))
+
+-- as much of the list as n places hold, over n places that are all d
+pub first_over : {A : Type 0} (d : A) (n k : ℕ) (xs : List A) → k ≡ min (length xs) n → take k xs ++ drop k (replicate n d) ≡ first d n xs
+first_over d n k xs e = over d n k xs (omega arith) (omega arith) (λ a. omega arith)
+
 -- ---- a place
 
 -- a place below n is the list's
@@ -52,10 +72,6 @@ first-get_or d (suc n) zero [] h = refl
 first-get_or d (suc n) (suc i) [] h = first-get_or d n i [] (omega arith)
 first-get_or d (suc n) zero (x ∷ xs) h = refl
 first-get_or d (suc n) (suc i) (x ∷ xs) h = first-get_or d n i xs (omega arith)
-
--- a place from n on is d
-pub first-get_or_past : {A : Type 0} (d : A) (n i : ℕ) (xs : List A) → n ≤ i → get_or (first d n xs) i d ≡ d
-first-get_or_past d n i xs h = get_or-eq_default (first d n xs) d {n = i} (omega (arith, first-length d n xs))
 
 -- a place below n past the end of the list is d
 pub first-get_or_short : {A : Type 0} (d : A) (n i : ℕ) (xs : List A) → i < n → length xs ≤ i → get_or (first d n xs) i d ≡ d
@@ -93,6 +109,22 @@ first-first d (suc m) (x ∷ xs) h = ap {B = List _} (λ t. x ∷ t) (first-firs
 -- the same by the list's length n
 pub first_back : {A : Type 0} (d : A) (m n : ℕ) (xs : List A) → length xs ≡ n → n ≤ m → first d n (first d m xs) ≡ xs
 first_back d m n xs e h = rw (← e) (first-first d m xs (omega arith))
+
+-- m places of as many items as the list and n places have, k of them, are m places of the n places
+pub first_front : {A : Type 0} (d : A) (m n k : ℕ) (xs : List A) → k ≡ min n (length xs) → first d m (take k xs) ≡ first d m (first d n xs)
+first_front d zero n k xs e = refl
+first_front d (suc m) n zero [] e = first_none d (suc m) ∙ sym (first-replicate d (suc m) n) ∙ ap (first d (suc m)) (sym (first_none d n))
+first_front d (suc m) n (suc k) [] e = absurd (omega arith)
+first_front d (suc m) zero zero (x ∷ xs) e = refl
+first_front d (suc m) zero (suc k) (x ∷ xs) e = absurd (omega arith)
+first_front d (suc m) (suc n) zero (x ∷ xs) e = absurd (omega arith)
+first_front d (suc m) (suc n) (suc k) (x ∷ xs) e = ap {B = List _} (λ t. x ∷ t) (first_front d m n k xs (omega arith))
+
+-- f of n places
+pub first_map : {A B : Type 0} (f : A → B) (d : A) (n : ℕ) (xs : List A) → map f (first d n xs) ≡ first (f d) n (map f xs)
+first_map f d zero xs = refl
+first_map f d (suc n) [] = ap {B = List _} (λ t. f d ∷ t) (first_map f d n [])
+first_map f d (suc n) (x ∷ xs) = ap {B = List _} (λ t. f x ∷ t) (first_map f d n xs)
 
 -- ---- one place more, and a store
 
@@ -133,14 +165,6 @@ append d (suc m) (x ∷ xs) v h = ap {B = List _} (λ t. x ∷ t) (append d m xs
 -- a store right behind a list of n, in m places that hold it, is one element more
 pub first-append : {A : Type 0} (d : A) (m n : ℕ) (xs : List A) (v : A) → length xs ≡ n → n < m → set (first d m xs) n v ≡ first d m (xs ++ (v ∷ []))
 first-append d m n xs v e h = rw (← e) (append d m xs v (omega arith))
-
--- m places that are d from n on are so after a store below n
-pub first_keep : {A : Type 0} (d : A) (m n i : ℕ) (xs : List A) (v : A) → i < length xs → i < n → xs ≡ first d m (first d n xs)
-    → set xs i v ≡ first d m (first d n (set xs i v))
-first_keep d m n i xs v l h e =
-    ap (λ t. set t i v) e
-    ∙ sym (first-set d m i (first d n xs) v (rw (first-length d n xs) h))
-    ∙ ap (first d m) (sym (first-set d n i xs v l))
 
 -- m places that are d from n on are so from n + 1 on after a store at n
 pub first_fill : {A : Type 0} (d : A) (m n : ℕ) (xs : List A) (v : A) → length xs ≡ m → n < m → xs ≡ first d m (first d n xs)

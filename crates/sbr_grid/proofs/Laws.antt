@@ -1,7 +1,7 @@
 -- Laws of the classes and of the view of a record.
 use mathlib.Core.Path.{◌≡◌, refl}
 use mathlib.Core.Bool.{false}
-use Prim.Native.Nat.{ℕ, zero, suc, ◌≤◌, ◌<◌}
+use Prim.Native.Nat.{◌≤◌, ◌<◌}
 use native.Mathlib.Omega.{arith}
 use lib.ListN.{length}
 use Rattle.sbr_grid.specs.declared.FrameClass.{FrameClass}
@@ -22,13 +22,6 @@ code_lt FixFix = omega arith
 code_lt FixVar = omega arith
 code_lt VarFix = omega arith
 code_lt VarVar = omega arith
-
--- a number above 2 has the last class
-pub class_rest : (v : ℕ) → (v ≡ 0 → ⊥) → (v ≡ 1 → ⊥) → (v ≡ 2 → ⊥) → VarVar ≡ class_of v
-class_rest zero a b c = absurd (a refl)
-class_rest (suc zero) a b c = absurd (b refl)
-class_rest (suc (suc zero)) a b c = absurd (c refl)
-class_rest (suc (suc (suc v))) a b c = refl
 
 -- the view of the record of a view, where the lists are within the record
 pub view_record : (g : Grid) → length g.freq_res ≤ 5 → length g.rel_bord_0 ≤ 4 → length g.rel_bord_1 ≤ 4 → view_of (record_of g) ≡ g

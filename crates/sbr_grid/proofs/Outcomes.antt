@@ -1,21 +1,17 @@
 -- Laws of outcomes.
-use mathlib.Core.Path.{◌≡◌, refl}
+use Rattle.std.specs.Prelude.{Ok, Err}
+use mathlib.Core.Path.{◌≡◌, refl, ap}
+use Rattle.std.specs.Prelude.{IsErrAnd}
 use mathlib.Core.Bool.{Bool, true, false}
 use Prim.Native.Nat.{ℕ}
 use native.Mathlib.Omega.{arith}
 use Rattle.sbr_grid.specs.declared.Refusal.{Refusal}
-use Rattle.sbr_grid.specs.declared.Answer.TheVariants.{Given, Refused}
-use Rattle.sbr_grid.specs.Refusals.{Outcome, answered, refused, unless, answer_of}
+use Rattle.sbr_grid.specs.Refusals.{Outcome, unless, result_map}
 
--- an outcome that is handed out as a refusal is that refusal
-pub refused_is : {A : Type 0} (o : Outcome A) (e : Refusal) → answer_of o ≡ Refused e → o ≡ refused e
-refused_is (answered a) e h = cc
-refused_is (refused d) e h = cc
-
--- an outcome that is handed out as given has a value
-pub given_is : {A : Type 0} (o : Outcome A) → answer_of o ≡ Given → (a : A) × (o ≡ answered a)
-given_is (answered a) h = (a, refl)
-given_is (refused e) h = let z : ◌≡◌ {A = ℕ} 0 1 = cc in absurd (omega arith)
+-- what `?` hands on of a refusal
+pub passed_on : {A : Type 0} (r : Outcome A) (e : Refusal) → IsErrAnd r (λ x. x ≡ e) → r ≡ Err e
+passed_on (Ok a) e h = absurd h
+passed_on (Err d) e h = ap Err h
 
 -- what follows a test is asked for only where it is passed
 pub unless-same : {A : Type 0} (b : Bool) (e : Refusal) (o p : Outcome A) → (b ≡ true → o ≡ p) → unless b e o ≡ unless b e p
@@ -23,6 +19,22 @@ unless-same true e o p h = h refl
 unless-same false e o p h = refl
 
 -- an answer has passed the test
-pub unless_answered : {A : Type 0} (b : Bool) (e : Refusal) (o : Outcome A) {a : A} → unless b e o ≡ answered a → (b ≡ true) × (o ≡ answered a)
+pub unless_answered : {A : Type 0} (b : Bool) (e : Refusal) (o : Outcome A) {a : A} → unless b e o ≡ Ok a → (b ≡ true) × (o ≡ Ok a)
 unless_answered true e o h = (refl, h)
 unless_answered false e o h = let z : ◌≡◌ {A = ℕ} 0 1 = cc in absurd (omega arith)
+
+-- a refusal where all that follows the test is answered is the test's
+pub unless_refused : {A : Type 0} (b : Bool) (e d : Refusal) (a : A) → Err d ≡ unless b e (Ok a) → (b ≡ false) × (d ≡ e)
+unless_refused true e d a h = let z : ◌≡◌ {A = ℕ} 0 1 = cc in absurd (omega arith)
+unless_refused false e d a h = (refl, cc)
+
+module _ {A B : Type 0} (f : A → B) where
+  -- what is handed out as a refusal is that refusal
+  pub map_refused : (o : Outcome A) (e : Refusal) → Err e ≡ result_map f o → o ≡ Err e
+  map_refused (Ok a) e h = let z : ◌≡◌ {A = ℕ} 0 1 = cc in absurd (omega arith)
+  map_refused (Err d) e h = cc
+
+  -- what is handed out as an answer is f of a value
+  pub map_answered : (o : Outcome A) (b : B) → Ok b ≡ result_map f o → (a : A) × ((o ≡ Ok a) × (b ≡ f a))
+  map_answered (Ok a) b h = (a, (refl, cc))
+  map_answered (Err e) b h = let z : ◌≡◌ {A = ℕ} 0 1 = cc in absurd (omega arith)

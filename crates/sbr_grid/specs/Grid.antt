@@ -1,6 +1,8 @@
 -- The grid record: its classes, the view that has only the places in use, and the record of a view.
 -- From ISO/IEC 14496-3 Table 4.69 and docs/ORDER.md, RC.
-use Rattle.std.specs.Prelude.{◌≡◌, Bool, false, cond, ◌&&◌, List, [], ◌∷◌, ℕ, zero, suc, ◌+◌, ◌^◌, ◌≤◌, leb, ltb, length}
+use Rattle.std.specs.Prelude.{◌≡◌, Bool, false, cond, ◌&&◌, List, [], ◌∷◌, ℕ, zero, suc, ◌+◌, ◌^◌, ◌≤◌, leb, ltb, length, Ok}
+use Rattle.sbr_grid.specs.declared.Refusal.TheVariants.{Record}
+use Rattle.sbr_grid.specs.Refusals.{Outcome, unless}
 use Rattle.sbr_grid.specs.declared.FrameClass.{FrameClass}
 use Rattle.sbr_grid.specs.declared.FrameClass.TheVariants.{FixFix, FixVar, VarFix, VarVar}
 use Rattle.sbr_grid.specs.declared.SbrGrid.{SbrGrid}
@@ -21,6 +23,10 @@ class_of zero = FixFix
 class_of (suc zero) = FixVar
 class_of (suc (suc zero)) = VarFix
 class_of (suc (suc (suc n))) = VarVar
+
+-- the class of a number; none has a number above 3
+abbrev pub class_with_code : ℕ → Outcome FrameClass
+class_with_code n = unless (leb n 3) Record (Ok (class_of n))
 
 -- the least width from k on, among d more, in which n + 1 values can be told apart
 unfoldable pub width_from : ℕ → ℕ → ℕ → ℕ
@@ -110,6 +116,6 @@ record_of g = record {
   amp_res_override = g.amp_override;
 }
 
--- the record that stands beside a refusal
+-- the record of which nothing is set
 abbrev pub empty : SbrGrid
 empty = record_of (made FixFix 0 [] 0 0 [] [] 0 false)

@@ -1,9 +1,7 @@
 -- Refusals and their numbers: docs/ORDER.md, RF.
-use Rattle.std.specs.Prelude.{◌≡◌, Bool, cond, ℕ}
+use Rattle.std.specs.Prelude.{Bool, cond, ℕ, Result, Ok, Err}
 use Rattle.sbr_grid.specs.declared.Refusal.{Refusal}
 use Rattle.sbr_grid.specs.declared.Refusal.TheVariants.{SlotCount, Samples, Tables, Room, Record, TimeGrid, BitsEnd, EnvelopeCount, Chain, NoGrid}
-use Rattle.sbr_grid.specs.declared.Answer.{Answer}
-use Rattle.sbr_grid.specs.declared.Answer.TheVariants.{Given, Refused}
 
 abbrev pub number_of : Refusal → ℕ
 number_of SlotCount = 1
@@ -18,24 +16,19 @@ number_of Chain = 9
 number_of NoGrid = 10
 
 -- what a call comes to: a full result, or a refusal
-pub data Outcome (A : Type 0) : Type 0 where
-  answered : A → Outcome A
-  refused : Refusal → Outcome A
+abbrev pub Outcome : Type 0 → Type 0
+Outcome A = Result A Refusal
+
+-- the same with f of the value: what a program hands out, where its types are not those of the definitions
+abbrev pub result_map : {A B : Type 0} → (A → B) → Outcome A → Outcome B
+result_map f (Ok a) = Ok (f a)
+result_map f (Err e) = Err e
 
 -- a test that a call makes before what follows: where it is not passed, the call is refused by e
 abbrev pub unless : {A : Type 0} → Bool → Refusal → Outcome A → Outcome A
-unless passed e o = cond passed o (refused e)
+unless passed e o = cond passed o (Err e)
 
--- the enum that a program hands out for an outcome
-abbrev pub answer_of : {A : Type 0} → Outcome A → Answer
-answer_of (answered a) = Given
-answer_of (refused e) = Refused e
-
--- the value of an answer, or what stands beside a refusal
+-- f of the value of an answer, or d where it is refused
 abbrev pub value_or : {A B : Type 0} → (A → B) → B → Outcome A → B
-value_or f d (answered a) = f a
-value_or f d (refused e) = d
-
--- a call that comes to o: what it hands out is r, and what it leaves of something lent is m
-abbrev pub Leaves : {A B C : Type 0} → Outcome A → (Outcome A → B) → B → (Outcome A → C) → C → Type 0
-Leaves o out r left m = (r ≡ out o) × (m ≡ left o)
+value_or f d (Ok a) = f a
+value_or f d (Err e) = d

@@ -18,7 +18,7 @@ abbrev pub is_number : ℤ → ℕ → Bool
 is_number (pos z) k = eqb z k
 is_number (negsuc z) k = false
 
--- the record of a time grid: places past a count are zero; and the empty one, which stands beside a refusal
+-- the record of a time grid: places past a count are zero; and the one of which nothing is set
 abbrev pub time_record : Times → TimeGrid
 time_record t = record {
   num_env = length t.t_e - 1;

@@ -1,18 +1,20 @@
 // The grid record of src/sbr_grid.rs, with its limits, the record of its time grid, and the refusals of every call.
 #![tactic(auto)]
 
-ghost use Rattle.std.specs.Prelude.{◌≡◌, ◌+◌, ◌%◌};
+ghost use Rattle.std.specs.Prelude.{◌≡◌, true, false, ◌&&◌, ◌+◌, ◌%◌, ◌≤◌, eqb, replicate};
 ghost use Rattle.sbr_grid.specs.Refusals.{number_of};
-ghost use Rattle.sbr_grid.specs.Grid.{class_code, class_of, empty, table_width};
+ghost use Rattle.sbr_grid.specs.Grid.{by_class, class_code, class_of, class_with_code, empty, first, noise_of, table_width};
 ghost use Rattle.sbr_grid.specs.Times.{is_slot_count, empty_time};
 
-// bs_frame_class.
-#[derive(Clone, Copy)]
+use std::fmt;
+
+// bs_frame_class, with the number of each class.
+#[derive(Clone, Copy, Debug, PartialEq, Eq)]
 pub enum FrameClass {
-    FixFix,
-    FixVar,
-    VarFix,
-    VarVar,
+    FixFix = 0,
+    FixVar = 1,
+    VarFix = 2,
+    VarVar = 3,
 }
 
 impl FrameClass {
@@ -37,17 +39,40 @@ impl FrameClass {
     {
         FrameClass::of_code(v % 4)
     }
+}
 
-    // The number of a class, as it is written in two bits.
-    pub fn to_bits(self) -> u32
-        ensures { result ≡ class_code self }
-    {
-        match self {
-            FrameClass::FixFix => 0,
-            FrameClass::FixVar => 1,
-            FrameClass::VarFix => 2,
-            FrameClass::VarVar => 3,
+// The number of a class, as it is written in two bits.
+impl From<FrameClass> for u32 {
+    ghost from_gives = { λ class code. code ≡ class_code class };
+
+    fn from(class: FrameClass) -> u32 {
+        class as u32
+    }
+}
+
+// The class of a number; a number above 3 is refused.
+impl TryFrom<u32> for FrameClass {
+    type Error = Refusal;
+
+    ghost try_from_gives = { λ code class. class ≡ class_with_code code };
+
+    fn try_from(code: u32) -> Result<Self, Refusal> {
+        if FrameClass::MAX_CODE < code {
+            return Err(Refusal::Record);
         }
+        Ok(FrameClass::of_code(code))
+    }
+}
+
+// The name of a class.
+impl fmt::Display for FrameClass {
+    fn fmt<W: fmt::Write>(&self, f: &mut fmt::Formatter<W>) -> fmt::Result {
+        f.write_str(match self {
+            FrameClass::FixFix => "FixFix",
+            FrameClass::FixVar => "FixVar",
+            FrameClass::VarFix => "VarFix",
+            FrameClass::VarVar => "VarVar",
+        })
     }
 }
 
@@ -86,7 +111,7 @@ impl SbrGrid {
 
     pub const MAX_RAW_REL: u8 = 3;
 
-    // The record beside a refusal: every number 0, every flag false.
+    // A record of which nothing is set: every number 0, every flag false.
     pub fn empty() -> Self
         ensures { result ≡ empty }
     {
@@ -105,6 +130,72 @@ impl SbrGrid {
             amp_res_override: false,
         }
     }
+
+    // The resolutions of the envelopes.
+    pub fn resolutions(&self) -> &[bool]
+        requires { self.now.num_env ≤ 5 }
+        ensures { result.now ≡ first false self.now.num_env self.now.freq_res }
+    {
+        front(&self.freq_res, self.num_env)
+    }
+
+    // The stored lengths of the leading side.
+    pub fn leading(&self) -> &[u8]
+        requires { self.now.num_rel_0 ≤ 4 }
+        ensures { result.now ≡ first 0 self.now.num_rel_0 self.now.rel_bord_0 }
+    {
+        front(&self.rel_bord_0, self.num_rel_0)
+    }
+
+    // The stored lengths of the trailing side.
+    pub fn trailing(&self) -> &[u8]
+        requires { self.now.num_rel_1 ≤ 4 }
+        ensures { result.now ≡ first 0 self.now.num_rel_1 self.now.rel_bord_1 }
+    {
+        front(&self.rel_bord_1, self.num_rel_1)
+    }
+}
+
+// The first `count` items of an array.
+pub fn front<T, const N: usize>(items: &[T; N], count: usize) -> &[T]
+    requires { count ≤ N }
+    ensures { (fill : T) → result.now ≡ first fill count items.now }
+{
+    &items[..count]
+}
+
+// The first N items of a list, with `fill` behind them where it has fewer.
+pub fn padded<T: Copy, const N: usize>(items: &[T], fill: T) -> [T; N]
+    ensures { result ≡ first fill N items.now }
+{
+    let count = items.len().min(N);
+    let mut out = [fill; N];
+    out[..count].copy_from_slice(&items[..count]);
+    out
+}
+
+// One resolution for each of num_env envelopes; the places behind them are false.
+pub fn same_resolutions(num_env: usize, high: bool) -> [bool; SbrGrid::MAX_NUM_ENV]
+    requires { num_env ≤ 5 }
+    ensures { result ≡ first false 5 (replicate num_env high) }
+{
+    let mut flags = [false; SbrGrid::MAX_NUM_ENV];
+    flags[..num_env].fill(high);
+    flags
+}
+
+// The number of noise floors: two, or one for one envelope.
+pub fn noise_of(num_env: usize) -> usize
+    ensures { result ≡ noise_of num_env }
+{
+    if 1 < num_env { 2 } else { 1 }
+}
+
+// Whether the amplitude override is set: a single FixFix envelope.
+pub fn is_overridden(class: FrameClass, num_env: usize) -> bool
+    ensures { result ≡ (by_class class true false false false && eqb num_env 1) }
+{
+    class == FrameClass::FixFix && num_env == 1
 }
 
 // Bits of bs_pointer for 1 to 5 envelopes.
@@ -124,57 +215,38 @@ pub fn ptr_bits(num_env: usize) -> u32
     PTR_BITS[num_env - 1]
 }
 
-// Why a call gives no result.
-#[derive(Clone, Copy)]
+// Why a call gives no result, with the number of each refusal.
+#[derive(Clone, Copy, Debug, PartialEq, Eq)]
 pub enum Refusal {
     // The slot count is neither 15 nor 16.
-    SlotCount,
+    SlotCount = 1,
     // Too few samples.
-    Samples,
+    Samples = 2,
     // The band tables.
-    Tables,
+    Tables = 3,
     // Too little room for what is to be written, or a text of more frames or bytes than are taken.
-    Room,
+    Room = 4,
     // A record that sbr_grid() can't carry, or that can't be formed of what C hands in; a switch or resolution above 1; a line of text
     // that can't be read, or a slot count behind a frame.
-    Record,
+    Record = 5,
     // A record that has no time grid.
-    TimeGrid,
+    TimeGrid = 6,
     // The bits end before a field is complete.
-    BitsEnd,
+    BitsEnd = 7,
     // A count that no frame has.
-    EnvelopeCount,
+    EnvelopeCount = 8,
     // The frame does not begin where the one before it ended.
-    Chain,
+    Chain = 9,
     // No writable grid has the borders, resolutions and mark that are named.
-    NoGrid,
+    NoGrid = 10,
 }
 
-impl Refusal {
-    // The number of a refusal, 1 to 10.
-    pub fn number(self) -> u32
-        ensures { result ≡ number_of self }
-    {
-        match self {
-            Refusal::SlotCount => 1,
-            Refusal::Samples => 2,
-            Refusal::Tables => 3,
-            Refusal::Room => 4,
-            Refusal::Record => 5,
-            Refusal::TimeGrid => 6,
-            Refusal::BitsEnd => 7,
-            Refusal::EnvelopeCount => 8,
-            Refusal::Chain => 9,
-            Refusal::NoGrid => 10,
-        }
+impl From<Refusal> for u32 {
+    ghost from_gives = { λ why number. number ≡ number_of why };
+
+    fn from(why: Refusal) -> u32 {
+        why as u32
     }
-}
-
-// Whether a call answered. What it answers stands beside it.
-#[derive(Clone, Copy)]
-pub enum Answer {
-    Given,
-    Refused(Refusal),
 }
 
 // The borders of a frame. Places past a count are zero.
@@ -195,7 +267,7 @@ impl TimeGrid {
 
     pub const MAX_NOISE_BORDERS: usize = 3;
 
-    // The time grid beside a refusal.
+    // A time grid of which nothing is set.
     pub fn empty() -> Self
         ensures { result ≡ empty_time }
     {
@@ -206,6 +278,22 @@ impl TimeGrid {
             t_q: [0u32; TimeGrid::MAX_NOISE_BORDERS],
             l_a: 0,
         }
+    }
+
+    // The borders of the envelopes.
+    pub fn borders(&self) -> &[u32]
+        requires { self.now.num_env ≤ 5 }
+        ensures { result.now ≡ first 0 (self.now.num_env + 1) self.now.t_e }
+    {
+        front(&self.t_e, self.num_env + 1)
+    }
+
+    // The borders of the noise floors.
+    pub fn noise_borders(&self) -> &[u32]
+        requires { self.now.num_noise ≤ 2 }
+        ensures { result.now ≡ first 0 (self.now.num_noise + 1) self.now.t_q }
+    {
+        front(&self.t_q, self.num_noise + 1)
     }
 }
 

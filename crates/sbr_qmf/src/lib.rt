@@ -23,11 +23,13 @@ impl Complex {
 
 // How many numbers the samples of a frame have at the least, by its slot count: what a host sizes its buffer by. 0 for a slot count that every
 // call refuses.
+#[tactic(auto, using(sbr_grid::proofs::Slots::slots_few))]
 pub fn samples_needed(num_time_slots: usize) -> usize
     ensures { result ≡ cond (is_slot_count num_time_slots) (samples_needed num_time_slots) 0 }
 {
-    if !sbr_grid::is_slot_count(num_time_slots) {
-        return 0;
+    if sbr_grid::is_slot_count(num_time_slots) {
+        (2 * (num_time_slots + 8) + 2) * 128
+    } else {
+        0
     }
-    (2 * (num_time_slots + 8) + 2) * 128
 }

@@ -3,7 +3,6 @@ use mathlib.Core.Path.{◌≡◌, sym, ◌∙◌}
 use Prim.Native.Nat.{ℕ, ◌+◌, ◌*◌, ◌^◌, ◌<◌, ◌-◌}
 use native.Mathlib.Nat.{sub-zero, mod-lt, lt_of_lt_of_le}
 use lib.Pow.{pow_pos, pow_mono}
-use Rattle.bits.specs.Room.{end_of}
 use Rattle.bits.proofs.Turns.{get_turn, get_done, grows}
 use native.Mathlib.Omega.{arith}
 use Rattle.bits.proofs.field.get.Goals.{After-pow2, After-field_of}
@@ -26,16 +25,8 @@ small c = rw c.field_of.ensures (mod-lt _ (pow_pos _))
 pub overflow_mul-v : goal.overflow_mul-v
 overflow_mul-v c = omega (arith, lt_of_lt_of_le (grown (goal.at.overflow_mul-v c).After-pow2 0 (pow_pos _)) (pow_mono {j = 32} (omega arith)))
 
-pub bounds-buf-at : goal.bounds-buf-at
-unfolding end_of
-bounds-buf-at c = omega arith
-
 pub overflow_add-v : goal.overflow_add-v
 overflow_add-v c = record { fits = lt_of_lt_of_le (grown (goal.at.overflow_add-v c).After-pow2 c.field_of.result (small (goal.at.overflow_add-v c).After-field_of)) (pow_mono {j = 32} (omega arith)) }
-
-pub overflow_add-at : goal.overflow_add-at
-unfolding end_of
-overflow_add-at c = omega arith
 
 pub loop-k-preserved : goal.loop-k-preserved
 loop-k-preserved c =

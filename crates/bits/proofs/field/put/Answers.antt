@@ -6,18 +6,6 @@ use Rattle.bits.proofs.Turns.{put_turn, put_done}
 use native.Mathlib.Omega.{arith}
 use Rattle.bits.proofs.field.put.Goals as goal
 
-pub bounds-buf-i : goal.bounds-buf-i
-unfolding end_of
-bounds-buf-i c = omega arith
-
-pub bounds-buf-i-in-loop-k : goal.bounds-buf-i-in-loop-k
-unfolding end_of
-bounds-buf-i-in-loop-k c = omega arith
-
-pub overflow_add-at : goal.overflow_add-at
-unfolding end_of
-overflow_add-at c = omega arith
-
 pub loop-k-preserved : goal.loop-k-preserved
 unfolding end_of
 loop-k-preserved c =
