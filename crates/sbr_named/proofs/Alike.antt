@@ -1,5 +1,6 @@
 -- Records that are alike in what borders are made of have the same borders. A record with another pointer, and with what its class does not send
 -- cleared, is alike the record.
+use Rattle.std.specs.Prelude.{Ok}
 use mathlib.Core.Path.{◌≡◌, refl, sym, ap, ◌∙◌}
 use mathlib.Core.Bool.{true}
 use mathlib.Core.List.{[]}
@@ -10,7 +11,6 @@ use borrow.Author.Tests.{le-leb, lt-leb, eq-eqb, le-ltb, lt-ltb}
 use lib.ListN.{length}
 use Rattle.sbr_grid.specs.declared.FrameClass.{FrameClass}
 use Rattle.sbr_grid.specs.declared.FrameClass.TheVariants.{FixFix, FixVar, VarFix, VarVar}
-use Rattle.sbr_grid.specs.Refusals.{answered}
 use Rattle.sbr_grid.specs.Grid.{by_class, noise_of, Grid, made, num_env_of}
 use Rattle.sbr_grid.specs.Times.{Times}
 use Rattle.sbr_time_grid.specs.TimeGrid.{by_pointer, abs_bord_lead, abs_bord_trail, n_rel_lead, n_rel_trail, rel_bord_lead, rel_bord_trail, list_from, t_e_of, t_q_of, l_a_of, rises, middle_border, counts_fit, borders_fit, noise_fits, time_grid}
@@ -79,8 +79,8 @@ fit_counts g c =
     rw (le-leb 1 (num_env_of g) c.some, le-leb (num_env_of g) 5 c.few, le-leb _ 4 c.few0, le-leb _ 4 c.few1, eq-eqb _ _ c.all)
 
 -- a record that is like one with a time grid, and passes the tests of counts, border bytes and noise floors, has its borders
-alike_time : (n : ℕ) (g h : Grid) (t : Times) → time_grid n g ≡ answered t → Alike n g h → Counts h → borders_fit h ≡ true → noise_fits h ≡ true
-    → time_grid n h ≡ answered (record { t_e = t.t_e; t_q = t_q_of n h; l_a = l_a_of h })
+alike_time : (n : ℕ) (g h : Grid) (t : Times) → time_grid n g ≡ Ok t → Alike n g h → Counts h → borders_fit h ≡ true → noise_fits h ≡ true
+    → time_grid n h ≡ Ok (record { t_e = t.t_e; t_q = t_q_of n h; l_a = l_a_of h })
 unfolding time_grid
 alike_time n g h t e s a b c =
     let p = timed n g t e in
@@ -172,8 +172,8 @@ module _ (n q : ℕ) (g : Grid) (fits : writable g ≡ true) (low : by_class g.f
   repointed-fits = rw (fields_fit (repointed q g) repointed-fields, (repointed_tests q g g.frame_class).1) (fit_class g fits)
 
   -- and has the borders
-  pub repointed-time : (t : Times) → time_grid n g ≡ answered t
-      → time_grid n (repointed q g) ≡ answered (record { t_e = t.t_e; t_q = t_q_of n (repointed q g); l_a = l_a_of (repointed q g) })
+  pub repointed-time : (t : Times) → time_grid n g ≡ Ok t
+      → time_grid n (repointed q g) ≡ Ok (record { t_e = t.t_e; t_q = t_q_of n (repointed q g); l_a = l_a_of (repointed q g) })
   repointed-time t e =
       let h = repointed q g in
       let c = g.frame_class in
@@ -212,7 +212,7 @@ pub clear_fits : (g : Grid) → writable g ≡ true → writable (cleared g) ≡
 clear_fits g w = repointed-fits 0 g.pointer g w (clear_low g w)
 
 -- and has the whole time grid
-pub clear_time : (n : ℕ) (g : Grid) (t : Times) → writable g ≡ true → time_grid n g ≡ answered t → time_grid n (cleared g) ≡ answered t
+pub clear_time : (n : ℕ) (g : Grid) (t : Times) → writable g ≡ true → time_grid n g ≡ Ok t → time_grid n (cleared g) ≡ Ok t
 clear_time n g t w e =
     let c = g.frame_class in
     let k = clear_keeps g c in
@@ -221,4 +221,4 @@ clear_time n g t w e =
     noise-same n g (cleared g) (repointed_alike n g.pointer g c) p.counted k.1 p.noise ∙ ap (λ x. x.t_q) (sym p.value)
     in
     let m : l_a_of (cleared g) ≡ t.l_a = k.0 ∙ ap (λ x. x.l_a) (sym p.value) in
-    repointed-time n g.pointer g w (clear_low g w) t e ∙ (λ i. answered (record { t_e = t.t_e; t_q = q i; l_a = m i }))
+    repointed-time n g.pointer g w (clear_low g w) t e ∙ (λ i. Ok (record { t_e = t.t_e; t_q = q i; l_a = m i }))

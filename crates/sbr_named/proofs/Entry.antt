@@ -1,60 +1,80 @@
--- The ways out of `grid_for_borders`, one law for each.
-use mathlib.Core.Path.{◌≡◌, ◌∙◌}
-use mathlib.Core.Bool.{Bool, true, false}
-use mathlib.Core.List.{List, map}
+-- What `grid_for_borders` tests, and what it hands on.
+use Rattle.std.specs.Prelude.{Option, Err}
+use Rattle.std.specs.Option.{ok_or}
+use Rattle.std.specs.List.{list_all, find}
+use mathlib.Core.Path.{◌≡◌, sym, ◌∙◌}
+use mathlib.Core.Bool.{Bool, true, false, ◌&&◌, false≢true, and-eq-true_iff}
+use mathlib.Core.List.{List, map, map-append}
 use Prim.Native.Nat.{ℕ, ◌+◌, ◌≤◌, ◌<◌}
-use native.Mathlib.Decide.{dec_le}
 use native.Mathlib.Omega.{arith}
-use lib.IntN.{ℤ, nat_abs}
-use lib.ListN.{length, get_or, length-map}
+use borrow.Author.Tests.{le-leb, eq-eqb, leb-true, eqb-true}
+use lib.Dec.{leb, eqb}
+use lib.IntN.{ℤ, pos, nat_abs}
+use Rattle.std.proofs.lemmas.List.{take_more, length-take-le}
+use lib.ListN.{length, get_or, take, set, length-map}
+use Rattle.sbr_grid.specs.declared.SbrGrid.{SbrGrid}
 use Rattle.sbr_grid.specs.declared.Refusal.TheVariants.{SlotCount, NoGrid}
-use Rattle.sbr_grid.specs.Refusals.{refused}
-use Rattle.sbr_grid.specs.Grid.{first}
+use Rattle.sbr_grid.specs.Refusals.{Outcome, result_map}
+use Rattle.sbr_grid.specs.Grid.{first, view_of, record_of}
 use Rattle.sbr_grid.specs.Times.{is_slot_count}
-use Rattle.sbr_grid.proofs.First.{first_back, first-get_or, first-get_or_past}
-use Rattle.sbr_writer.specs.Write.{every}
-use Rattle.sbr_named.specs.declared.Named.{Named}
-use Rattle.sbr_named.specs.Shapes.{named, or_no_grid, named_grid}
-use Rattle.sbr_named.specs.Code.{named_of, is_border, FramePlaces}
+use Rattle.sbr_grid.proofs.First.{first-length, first_take, first_back, first-append}
+use Rattle.sbr_named.specs.Shapes.{candidate, has_borders, named_grid}
+use Rattle.sbr_named.specs.declared.shape.TheConstants.{SHAPES}
+use Rattle.sbr_named.specs.Code.{is_border, is_mark, can_be_named}
+use Rattle.sbr_writer.proofs.Writable.{both}
+use Rattle.sbr_named.proofs.Tried.{found}
 use Rattle.sbr_named.proofs.Chosen.{no_grid_exactly}
 use Rattle.sbr_named.proofs.Limits.{Limits, limits}
-use Rattle.sbr_named.proofs.Signed.{border_from_zero, border_low}
+use Rattle.sbr_named.proofs.Signed.{border_from_zero}
 
-module _ (n : ℕ) (zs : List ℤ) (res : List Bool) (mark : ℤ) (r : Named) where
+module _ (zs : List ℤ) (res : List Bool) (mark : ℤ) where
+  -- what the test of what is named says
+  pub can_told : can_be_named zs res mark ≡ true → Limits zs res mark
+  can_told h =
+      let q = both (leb 1 (length res) && leb (length res) 5 && eqb (length zs) (length res + 1) && list_all is_border zs) (is_mark mark) h in
+      let p = simp and-eq-true_iff at q.0 in
+      record {
+        count = eqb-true (length zs) (length res + 1) p.0.1;
+        some = leb-true 1 (length res) p.0.0.0;
+        few = leb-true (length res) 5 p.0.0.1;
+        borders = p.1;
+        marked = q.1;
+      }
+
+  -- what has limits passes it
+  can_pass : Limits zs res mark → can_be_named zs res mark ≡ true
+  can_pass l = rw (le-leb 1 (length res) l.some, le-leb (length res) 5 l.few, eq-eqb (length zs) (length res + 1) l.count, l.borders) l.marked
+
   -- a slot count that is none is refused by 1
-  pub no_slots : is_slot_count n ≡ false → r ≡ named_of (refused SlotCount) → r ≡ named_of (named_grid n zs res mark)
-  no_slots e h = rw ((no_grid_exactly n zs res mark).slot_count.1 e) h
+  pub no_slots : (n : ℕ) → is_slot_count n ≡ false → ◌≡◌ {A = Outcome SbrGrid} (Err SlotCount) (result_map record_of (named_grid n zs res mark))
+  no_slots n e = rw ((no_grid_exactly n zs res mark).slot_count.1 e)
 
   -- after it, what no frame can have is refused by 10
-  pub no-limits : is_slot_count n ≡ true → (Limits zs res mark → ⊥) → r ≡ named_of (refused NoGrid) → r ≡ named_of (named_grid n zs res mark)
-  no-limits e x h = rw ((no_grid_exactly n zs res mark).no_grid.1 (e, λ g s. x (limits n zs res mark g s))) h
+  pub no_limits : (n : ℕ) → is_slot_count n ≡ true → can_be_named zs res mark ≡ false
+      → ◌≡◌ {A = Outcome SbrGrid} (Err NoGrid) (result_map record_of (named_grid n zs res mark))
+  no_limits n e h = rw ((no_grid_exactly n zs res mark).no_grid.1 (e, λ g s. false≢true (sym h ∙ can_pass (limits n zs res mark g s))))
 
-module _ (zs : List ℤ) (res : List Bool) (le : ℕ) (few : le ≤ 5) (count : length zs ≡ le + 1) (flags : length res ≡ le) where
-  -- the borders that stand in the places in use are those handed in
-  borders-back : first 0 (le + 1) (first 0 6 (map nat_abs zs)) ≡ map nat_abs zs
-  borders-back = first_back 0 6 (le + 1) (map nat_abs zs) (length-map zs nat_abs ∙ count) (omega arith)
+-- the borders that stand in the places in use are those handed in
+pub borders_back : (zs : List ℤ) (t : List ℕ) → length zs ≤ 6 → t ≡ first 0 6 (map nat_abs zs) → take (length zs) t ≡ map nat_abs zs
+borders_back zs t h e =
+    let x = map nat_abs zs in
+    let n : length x ≡ length zs = length-map zs nat_abs in
+    rw e (first_take 0 (length zs) (first 0 6 x) (omega (arith, first-length 0 6 x)) ∙ first_back 0 6 (length zs) x n h)
 
-  -- and so are the resolutions
-  flags-back : first false le (first false 5 res) ≡ res
-  flags-back = first_back false 5 le res flags few
+-- what the search through the shapes gives is the answer
+pub answer : (n : ℕ) (zs : List ℤ) (res : List Bool) (mark m : ℤ) (bs : List ℕ) (r : Option SbrGrid) → is_slot_count n ≡ true → Limits zs res mark
+    → bs ≡ map nat_abs zs → m ≡ mark
+    → r ≡ find (λ g. has_borders n bs m (view_of g)) (map (λ s. record_of (candidate n bs res m s)) SHAPES)
+    → ok_or r NoGrid ≡ result_map record_of (named_grid n zs res mark)
+unfolding named_grid
+answer n zs res mark m bs r s l b e f =
+    rw (s, border_from_zero zs l.borders, ← b, ← e) (rw f (found n bs res m l.some l.few))
 
-  -- they are such as the choice asks for
-  pub framed : 0 < le → every is_border zs ≡ true → FramePlaces (first 0 6 (map nat_abs zs)) (first false 5 res) le
-  framed some b = record {
-    some = some;
-    most = few;
-    low = λ i. low i (dec_le (i + 1) 6);
-    borders = rw borders-back;
-    flags = rw flags-back;
-  }
-    where
-      low : (i : ℕ) → Dec (i + 1 ≤ 6) → get_or (first 0 6 (map nat_abs zs)) i 0 ≤ 19
-      low i (yes a) = rw (first-get_or 0 6 i (map nat_abs zs) (omega arith)) (border_low zs i b)
-      low i (no a) = rw (first-get_or_past 0 6 i (map nat_abs zs) (omega arith)) (omega arith)
-
-  -- what is chosen for them is the answer
-  pub chosen : (n : ℕ) (mark : ℤ) (r : Named) → is_slot_count n ≡ true → every is_border zs ≡ true
-      → r ≡ named_of (or_no_grid (named n (first 0 (le + 1) (first 0 6 (map nat_abs zs))) (first false le (first false 5 res)) mark))
-      → r ≡ named_of (named_grid n zs res mark)
-  unfolding named_grid
-  chosen n mark r e b h = rw (e, border_from_zero zs b) (rw (borders-back, flags-back) at h)
+-- one border more in the places in use
+pub place_more : (zs : List ℤ) (i : ℕ) → i < length zs → length zs ≤ 6
+    → set (first 0 6 (map nat_abs (take i zs))) i (nat_abs (get_or zs i (pos 0))) ≡ first 0 6 (map nat_abs (take (i + 1) zs))
+place_more zs i h k =
+    let v = nat_abs (get_or zs i (pos 0)) in
+    let xs = map nat_abs (take i zs) in
+    let n : length xs ≡ i = length-map (take i zs) nat_abs ∙ length-take-le i zs (omega arith) in
+    rw (take_more zs i (pos 0) h, map-append) (first-append 0 6 i xs v n (omega arith))

@@ -1,23 +1,27 @@
 -- Some record of a shape has given borders, resolutions and mark exactly where the candidate of that shape passes the test; and where one has them with
 -- any mark, one of the same class and shape has them with none.
+use Rattle.std.specs.Prelude.{Ok, Err}
+use Rattle.std.specs.Ordering.{int_eq}
+use Rattle.std.specs.Cmp.Lexicographic.{pointwise}
+use Rattle.std.proofs.lemmas.Bool.Decides.{Decides-int_eq}
+use Rattle.std.proofs.lemmas.Slice.Eq.{bytes_eq-Decides}
 use mathlib.Core.Path.{◌≡◌, refl, ap, ◌∙◌}
 use mathlib.Core.Bool.{Bool, true, false≢true}
-use mathlib.Core.List.{List, [], ◌∷◌}
+use mathlib.Core.List.{List}
 use mathlib.Core.Logic.{◌↔◌}
 use Prim.Native.Nat.{ℕ, ◌≤◌}
 use native.Mathlib.Omega.{arith}
-use borrow.Author.Tests.{eqb-true, eq-eqb}
 use lib.Dec.{eqb}
-use lib.IntN.{ℤ, pos, negsuc}
+use lib.IntN.{ℤ, negsuc}
 use lib.ListN.{length}
-use Rattle.sbr_grid.specs.Refusals.{Outcome, answered, refused}
+use Rattle.sbr_grid.specs.Refusals.{Outcome}
 use Rattle.sbr_grid.specs.Grid.{by_class, class_of, Grid, num_env_of}
 use Rattle.sbr_grid.specs.Times.{Times}
 use Rattle.sbr_time_grid.specs.TimeGrid.{mark_of, t_q_of, l_a_of, time_grid}
 use Rattle.sbr_time_grid.proofs.Laws.{each_class}
 use Rattle.sbr_writer.specs.Write.{writable}
 use Rattle.sbr_writer.proofs.Writable.{both}
-use Rattle.sbr_named.specs.Shapes.{shaped, pointer_for, candidate, same_list, is_same_mark, has_times, has_borders}
+use Rattle.sbr_named.specs.Shapes.{shaped, pointer_for, candidate, shape_at, has_times, has_borders}
 use Rattle.sbr_named.proofs.Passed.{fit_fields, timed}
 use Rattle.sbr_named.proofs.Alike.{repointed, repointed-fits, repointed-time}
 use Rattle.sbr_named.proofs.Pointers.{Marked, marked, no_mark}
@@ -27,49 +31,21 @@ use Rattle.sbr_named.proofs.Shapes.{shape_of, shape_class, shaped_is, shaped_sha
 pub record HasBorders (n : ℕ) (bs : List ℕ) (res : List Bool) (mark : ℤ) (g : Grid) : Type 0 where
   pub fits : writable g ≡ true
   pub noise : List ℕ
-  pub time : time_grid n g ≡ answered (record { t_e = bs; t_q = noise; l_a = mark })
+  pub time : time_grid n g ≡ Ok (record { t_e = bs; t_q = noise; l_a = mark })
   pub flags : g.freq_res ≡ res
 
 -- ---- the test says so
-
--- lists that pass the test of equality are equal
-same_list_lem : (xs ys : List ℕ) → same_list xs ys ≡ true → xs ≡ ys
-unfolding same_list
-same_list_lem [] [] e = refl
-same_list_lem [] (y ∷ ys) e = absurd (false≢true e)
-same_list_lem (x ∷ xs) [] e = absurd (false≢true e)
-same_list_lem (x ∷ xs) (y ∷ ys) e =
-    let t = both (eqb x y) (same_list xs ys) e in
-    rw (eqb-true x y t.0, same_list_lem xs ys t.1)
-
--- a list is equal to itself
-list_itself : (xs : List ℕ) → same_list xs xs ≡ true
-unfolding same_list
-list_itself [] = refl
-list_itself (x ∷ xs) = rw (eq-eqb x x refl, list_itself xs)
-
--- marks that pass the test of equality are equal
-same_mark : (a b : ℤ) → is_same_mark a b ≡ true → a ≡ b
-same_mark (pos a) (pos b) e = ap pos (eqb-true a b e)
-same_mark (pos a) (negsuc b) e = absurd (false≢true e)
-same_mark (negsuc a) (pos b) e = absurd (false≢true e)
-same_mark (negsuc a) (negsuc b) e = ap negsuc (eqb-true a b e)
-
--- a mark is equal to itself
-mark_itself : (a : ℤ) → is_same_mark a a ≡ true
-mark_itself (pos a) = eq-eqb a a refl
-mark_itself (negsuc a) = eq-eqb a a refl
 
 module _ (n : ℕ) (bs : List ℕ) (mark : ℤ) (g : Grid) where
   -- the next law, by what the time grid comes to
   told : writable g ≡ true → (o : Outcome Times) → time_grid n g ≡ o → has_times bs mark o ≡ true → HasBorders n bs g.freq_res mark g
   unfolding has_times
-  told w (answered t) e h =
-      let v = both (same_list t.t_e bs) (is_same_mark t.l_a mark) h in
-      let b = same_list_lem t.t_e bs v.0 in
-      let m = same_mark t.l_a mark v.1 in
-      record { fits = w; noise = t.t_q; time = e ∙ λ i. answered (record { t_e = b i; t_q = t.t_q; l_a = m i }); flags = refl }
-  told w (refused r) e h = absurd (false≢true h)
+  told w (Ok t) e h =
+      let v = both (pointwise eqb t.t_e bs) (int_eq t.l_a mark) h in
+      let b = (bytes_eq-Decides t.t_e bs).0 v.0 in
+      let m = (Decides-int_eq t.l_a mark).0 v.1 in
+      record { fits = w; noise = t.t_q; time = e ∙ λ i. Ok (record { t_e = b i; t_q = t.t_q; l_a = m i }); flags = refl }
+  told w (Err r) e h = absurd (false≢true h)
 
   -- a record that passes the test has the borders and the mark
   pub passes-has : has_borders n bs mark g ≡ true → HasBorders n bs g.freq_res mark g
@@ -81,7 +57,7 @@ module _ (n : ℕ) (bs : List ℕ) (mark : ℤ) (g : Grid) where
   -- and one that has them passes
   has-passes : (res : List Bool) → HasBorders n bs res mark g → has_borders n bs mark g ≡ true
   unfolding has_borders has_times
-  has-passes res h = rw (h.fits, h.time, list_itself bs, mark_itself mark)
+  has-passes res h = rw (h.fits, h.time, (bytes_eq-Decides bs bs).1 refl, (Decides-int_eq mark mark).1 refl)
 
 -- ---- the candidate of a record's shape
 
@@ -113,12 +89,12 @@ module _ (n : ℕ) (bs : List ℕ) (res : List Bool) (mark : ℤ) (g : Grid) (s 
   }
 
   -- so the candidate of its shape passes
-  candidate-passes : has_borders n bs mark (candidate n bs res mark (shape_of g)) ≡ true
+  candidate-passes : has_borders n bs mark (candidate n bs res mark (shape_at (shape_of g))) ≡ true
   candidate-passes =
       let f = fit_fields g s.fits in
       let m = mark-told in
-      let e : candidate n bs g.freq_res mark (shape_of g) ≡ repointed q g =
-      ap (λ c. shaped n bs g.freq_res (shape_of g) (pointer_for c (num_env_of g) mark)) (shape_class g) ∙ shaped_is n q g _ s.fits s.time
+      let e : candidate n bs g.freq_res mark (shape_at (shape_of g)) ≡ repointed q g =
+      ap (λ c. shaped n bs g.freq_res (shape_at (shape_of g)) (pointer_for c (num_env_of g) mark)) (shape_class g) ∙ shaped_is n q g _ s.fits s.time
       in
       let h : HasBorders n bs res mark (repointed q g) = rw (m.same, ← mark-of) at (repointed-has q (omega arith)) in
       rw (← s.flags, e) (has-passes n bs mark (repointed q g) res h)
@@ -134,9 +110,9 @@ module _ (n : ℕ) (bs : List ℕ) (res : List Bool) (mark : ℤ) (g : Grid) (s 
 
 -- the candidate of a shape passes exactly where some record of that shape has the borders, the resolutions and the mark
 pub shape_exactly : (n : ℕ) (bs : List ℕ) (res : List Bool) (mark : ℤ) (k : ℕ)
-    → (has_borders n bs mark (candidate n bs res mark k) ≡ true) ↔ ((g : Grid) × (shape_of g ≡ k) × HasBorders n bs res mark g)
+    → (has_borders n bs mark (candidate n bs res mark (shape_at k)) ≡ true) ↔ ((g : Grid) × (shape_of g ≡ k) × HasBorders n bs res mark g)
 shape_exactly n bs res mark k =
-    let g = candidate n bs res mark k in (
+    let g = candidate n bs res mark (shape_at k) in (
       λ e. (g, shaped_shape n bs res (pointer_for (class_of k) (length res) mark) k, passes-has n bs mark g e),
       λ h. rw h.1 at (candidate-passes n bs res mark h.0 h.2),
     )

@@ -6,8 +6,8 @@ pub mod Exists
 pub mod FirstFrom
 pub mod Chosen
 pub mod Limits
-pub mod Entry
 pub mod Signed
 pub mod Stored
 pub mod Compared
 pub mod Tried
+pub mod Entry

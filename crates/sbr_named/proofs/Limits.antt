@@ -4,7 +4,7 @@ use mathlib.Core.Bool.{Bool, true}
 use mathlib.Core.List.{List, [], ◌∷◌, map}
 use Prim.Native.Nat.{ℕ, suc, ◌+◌, ◌≤◌, ◌<◌}
 use native.Mathlib.Omega.{arith}
-use borrow.Author.Tests.{le-leb, le-ltb}
+use borrow.Author.Tests.{le-leb}
 use lib.IntN.{ℤ, pos}
 use lib.ListN.{length, get_or, length-map}
 use Rattle.sbr_grid.specs.Grid.{Grid, num_env_of}
@@ -12,7 +12,7 @@ use Rattle.sbr_grid.proofs.Slots.{slots_few}
 use Rattle.sbr_time_grid.specs.TimeGrid.{t_e_of}
 use Rattle.sbr_time_grid.proofs.Rises.{rises_gap}
 use Rattle.sbr_time_grid.proofs.Ends.{time_ends}
-use Rattle.sbr_writer.specs.Write.{every}
+use Rattle.std.specs.List.{list_all}
 use Rattle.sbr_named.specs.Named.{HasNamed, CountsNamed}
 use Rattle.sbr_named.specs.Code.{is_border, is_mark}
 use Rattle.sbr_named.proofs.Passed.{timed}
@@ -21,17 +21,16 @@ use Rattle.sbr_named.proofs.Exists.{mark-of, mark-told}
 use Rattle.sbr_named.proofs.Chosen.{of-signed}
 
 -- borders of at most 19 each
-all_borders : (bs : List ℕ) → ((i : ℕ) → i < length bs → get_or bs i 0 ≤ 19) → every is_border (map pos bs) ≡ true
-unfolding every
+all_borders : (bs : List ℕ) → ((i : ℕ) → i < length bs → get_or bs i 0 ≤ 19) → list_all is_border (map pos bs) ≡ true
 all_borders [] h = refl
-all_borders (b ∷ bs) h = rw (le-ltb b 0 (omega arith), le-leb b 19 (h 0 (omega arith)), all_borders bs (λ i l. h (suc i) (omega arith)))
+all_borders (b ∷ bs) h = rw (le-leb 0 b (omega arith), le-leb b 19 (h 0 (omega arith)), all_borders bs (λ i l. h (suc i) (omega arith)))
 
 -- what is named has one border more than resolutions, 1 to 5 of those, borders from 0 to 19 and a mark from -1 to 5
 pub record Limits (zs : List ℤ) (res : List Bool) (mark : ℤ) : Type 0 where
   pub count : length zs ≡ length res + 1
   pub some : 0 < length res
   pub few : length res ≤ 5
-  pub borders : every is_border zs ≡ true
+  pub borders : list_all is_border zs ≡ true
   pub marked : is_mark mark ≡ true
 
 -- where any record has it

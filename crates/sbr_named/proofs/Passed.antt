@@ -1,8 +1,8 @@
 -- What the tests of the writer and of the time grid say of a record that passes them.
+use Rattle.std.specs.Prelude.{Ok}
 use mathlib.Core.Path.{◌≡◌}
 use mathlib.Core.Bool.{true, and-eq-true_iff}
 use Prim.Native.Nat.{ℕ}
-use Rattle.sbr_grid.specs.Refusals.{answered}
 use Rattle.sbr_grid.specs.Grid.{Grid, num_env_of}
 use Rattle.sbr_grid.specs.Times.{Times, is_slot_count}
 use Rattle.sbr_time_grid.specs.TimeGrid.{t_e_of, rises, borders_fit, noise_fits, times, time_grid}
@@ -27,7 +27,7 @@ pub record Timed (n : ℕ) (g : Grid) (t : Times) : Type 0 where
   pub noise : noise_fits g ≡ true
   pub value : t ≡ times n g
 
-pub timed : (n : ℕ) (g : Grid) (t : Times) → time_grid n g ≡ answered t → Timed n g t
+pub timed : (n : ℕ) (g : Grid) (t : Times) → time_grid n g ≡ Ok t → Timed n g t
 timed n g t e =
     let p = time_passes n g t e in
     let v = simp and-eq-true_iff at p.tests in

@@ -1,4 +1,5 @@
 -- A record is, but for its pointer and what its class does not send, the record of its shape at its own borders.
+use Rattle.std.specs.Prelude.{Ok}
 use mathlib.Core.Path.{◌≡◌, refl, sym, ap, ◌∙◌}
 use mathlib.Core.Bool.{Bool, true}
 use mathlib.Core.List.{List}
@@ -9,7 +10,6 @@ use lib.ListN.{length, get_or}
 use lib.Seq.{ext_get_or}
 use Rattle.sbr_grid.specs.declared.FrameClass.{FrameClass}
 use Rattle.sbr_grid.specs.declared.FrameClass.TheVariants.{FixFix, FixVar, VarFix, VarVar}
-use Rattle.sbr_grid.specs.Refusals.{answered}
 use Rattle.sbr_grid.specs.Grid.{by_class, class_of, Grid, num_env_of}
 use Rattle.sbr_grid.specs.Times.{Times}
 use Rattle.sbr_time_grid.specs.TimeGrid.{slots, abs_bord_lead, abs_bord_trail, n_rel_lead, n_rel_trail, rel_bord_lead, rel_bord_trail, slot_sum, list_from, t_e_of, rises, time_grid}
@@ -20,7 +20,7 @@ use Rattle.sbr_writer.specs.Write.{class_fits, writable}
 use Rattle.sbr_writer.proofs.Writable.{one_told, two_told}
 use Rattle.sbr_parse.specs.Syntax.{received}
 use Rattle.sbr_parse.specs.Inverse.{cleared}
-use Rattle.sbr_named.specs.Shapes.{leading, trailing, shaped}
+use Rattle.sbr_named.specs.Shapes.{leading, trailing, shape_at, shaped}
 use Rattle.sbr_named.proofs.Passed.{fit_class, timed}
 use Rattle.sbr_named.proofs.Alike.{repointed, in_class}
 
@@ -129,7 +129,7 @@ same_fields c res p e f x y = rw (e, f, x, y)
 
 -- the next law, by the class
 shaped_by : (n q : ℕ) (r : Grid) (c : FrameClass) → let g = in_class c r in
-    Counts g → rises (t_e_of n g) (num_env_of g) ≡ true → class_fits c g ≡ true → shaped n (borders_of n g) g.freq_res (shape_of g) q ≡ repointed q g
+    Counts g → rises (t_e_of n g) (num_env_of g) ≡ true → class_fits c g ≡ true → shaped n (borders_of n g) g.freq_res (shape_at (shape_of g)) q ≡ repointed q g
 unfolding leading trailing list_from abs_bord_lead abs_bord_trail n_rel_lead n_rel_trail rel_bord_lead class_fits
 shaped_by n q r FixFix k up f = refl
 shaped_by n q r FixVar k up f =
@@ -155,15 +155,15 @@ shaped_by n q r VarVar k up f =
     (ap (trailing (borders_of n g) (num_env_of r)) d ∙ trailing-is n g k up refl)
 
 -- the record of a writable record's shape, at the borders of its time grid, is that record but for the pointer and what is not sent
-pub shaped_is : (n q : ℕ) (g : Grid) (t : Times) → writable g ≡ true → time_grid n g ≡ answered t
-    → shaped n t.t_e g.freq_res (shape_of g) q ≡ repointed q g
+pub shaped_is : (n q : ℕ) (g : Grid) (t : Times) → writable g ≡ true → time_grid n g ≡ Ok t
+    → shaped n t.t_e g.freq_res (shape_at (shape_of g)) q ≡ repointed q g
 shaped_is n q g t w e =
     let p = timed n g t e in
     rw p.value
     (shaped_by n q g g.frame_class p.counted p.up (fit_class g w))
 
 -- the record of shape k has that shape
-pub shaped_shape : (n : ℕ) (bs : List ℕ) (res : List Bool) (p k : ℕ) → shape_of (shaped n bs res k p) ≡ k
+pub shaped_shape : (n : ℕ) (bs : List ℕ) (res : List Bool) (p k : ℕ) → shape_of (shaped n bs res (shape_at k) p) ≡ k
 unfolding leading
 shaped_shape n bs res p zero = refl
 shaped_shape n bs res p (suc zero) = refl
@@ -171,7 +171,7 @@ shaped_shape n bs res p (suc (suc zero)) = refl
 shaped_shape n bs res p (suc (suc (suc k))) = rw length-list_from (omega arith)
 
 -- and is cleared
-pub shaped_clear : (n : ℕ) (bs : List ℕ) (res : List Bool) (p k : ℕ) → cleared (shaped n bs res k p) ≡ shaped n bs res k p
+pub shaped_clear : (n : ℕ) (bs : List ℕ) (res : List Bool) (p k : ℕ) → cleared (shaped n bs res (shape_at k) p) ≡ shaped n bs res (shape_at k) p
 unfolding leading trailing list_from
 shaped_clear n bs res p zero = refl
 shaped_clear n bs res p (suc zero) = refl

@@ -1,44 +1,58 @@
--- The loop over the shapes.
-use mathlib.Core.Path.{◌≡◌, ap, ◌∙◌}
-use mathlib.Core.Bool.{Bool, true, false}
-use mathlib.Core.List.{List}
-use Prim.Native.Nat.{ℕ, ◌+◌, ◌-◌, ◌≤◌, ◌<◌}
+-- The search through the shapes.
+use Rattle.std.specs.Prelude.{Option, Some}
+use Rattle.std.specs.Option.{option_map, ok_or}
+use Rattle.std.specs.List.{find, range_with_len}
+use mathlib.Core.Path.{◌≡◌, refl, ap}
+use mathlib.Core.Bool.{Bool, true, false, cond}
+use mathlib.Core.List.{List, map}
+use Prim.Native.Nat.{ℕ, zero, suc, ◌+◌, ◌≤◌, ◌<◌}
+use native.Mathlib.Omega.{arith}
 use lib.IntN.{ℤ}
+use lib.ListN.{length}
 use Rattle.sbr_grid.specs.declared.SbrGrid.{SbrGrid}
-use Rattle.sbr_grid.specs.declared.Answer.TheVariants.{Given}
 use Rattle.sbr_grid.specs.declared.Refusal.TheVariants.{NoGrid}
-use Rattle.sbr_grid.specs.Refusals.{refused}
-use Rattle.sbr_grid.specs.Grid.{first, Grid, view_of, record_of}
-use Rattle.sbr_grid.proofs.First.{first-length}
-use Rattle.sbr_named.specs.Shapes.{candidate, has_borders, first_from, named, or_no_grid}
-use Rattle.sbr_named.specs.Code.{named_of, FramePlaces}
-use Rattle.sbr_named.specs.declared.Named.{Named}
-use Rattle.sbr_named.proofs.FirstFrom.{first_next, first-end}
+use Rattle.sbr_grid.specs.Refusals.{result_map}
+use Rattle.sbr_grid.specs.Grid.{Grid, view_of, record_of}
+use Rattle.sbr_named.specs.declared.shape.TheConstants.{SHAPES}
+use Rattle.sbr_named.specs.declared.shape.Shape.{Shape}
+use Rattle.sbr_named.specs.Shapes.{shape_at, candidate, has_borders, named}
 use Rattle.sbr_named.proofs.Stored.{candidate-view}
 
-module _ (n : ℕ) (t : List ℕ) (res : List Bool) (le : ℕ) (mark : ℤ) where
-  -- the record of shape k, from the places in use
-  abbrev pub tried : ℕ → Grid
-  tried k = candidate n (first 0 (le + 1) t) (first false le res) mark k
+module _ (n : ℕ) (bs : List ℕ) (res : List Bool) (mark : ℤ) (one : 0 < length res) (few : length res ≤ 5) where
+  -- the record of shape k, and whether it has what is named
+  abbrev tried : ℕ → Grid
+  tried k = candidate n bs res mark (shape_at k)
 
-  -- whether it has what is named
-  abbrev pub passes : ℕ → Bool
-  passes k = has_borders n (first 0 (le + 1) t) mark (tried k)
+  abbrev passes : ℕ → Bool
+  passes k = has_borders n bs mark (tried k)
 
-  -- the program's test of that record
-  pub passes-is : (k : ℕ) (g : SbrGrid) → k < 7 → FramePlaces t res le → g ≡ record_of (tried k) → has_borders n (first 0 (g.num_env + 1) t) mark (view_of g) ≡ passes k
-  passes-is k g h f e =
-      let l : (record_of (tried k)).num_env ≡ le = first-length false le res in
-      ap (λ x. has_borders n (first 0 (x.num_env + 1) t) mark (view_of x)) e ∙ rw (candidate-view t res le f n mark k h, l)
+  -- what the program makes of a shape, and its test of that
+  abbrev made : Shape → SbrGrid
+  made s = record_of (candidate n bs res mark s)
 
-  -- a shape that passes is the first
-  pub found : (k : ℕ) (g : SbrGrid) → k < 7 → first_from passes k (7 - k) ≡ first_from passes 0 7 → passes k ≡ true → g ≡ record_of (tried k)
-      → record { answer = Given; grid = g } ≡ named_of (or_no_grid (named n (first 0 (le + 1) t) (first false le res) mark))
+  abbrev has : SbrGrid → Bool
+  has g = has_borders n bs mark (view_of g)
+
+  -- the test says the same
+  has-is : (k : ℕ) → k < 7 → has (made (shape_at k)) ≡ passes k
+  has-is k h = ap (has_borders n bs mark) (candidate-view n bs res mark k h one few)
+
+  -- the next law, by what the test of shape k says
+  one_more : (b : Bool) (k : ℕ) (r : Option SbrGrid) (o : Option ℕ) → ok_or r NoGrid ≡ result_map record_of (ok_or (option_map tried o) NoGrid)
+      → ok_or (cond b (Some (made (shape_at k))) r) NoGrid ≡ result_map record_of (ok_or (option_map tried (cond b (Some k) o)) NoGrid)
+  one_more true k r o e = refl
+  one_more false k r o e = e
+
+  -- the first of d shapes from k on that passes
+  found_by : (k d : ℕ) → k + d ≡ 7 → let ks = range_with_len k d in
+      ok_or (find has (map (λ j. made (shape_at j)) ks)) NoGrid ≡ result_map record_of (ok_or (option_map tried (find passes ks)) NoGrid)
+  found_by k zero e = refl
+  found_by k (suc d) e =
+      let ks = range_with_len (k + 1) d in
+      rw (has-is k (omega arith))
+      (one_more (passes k) k (find has (map (λ j. made (shape_at j)) ks)) (find passes ks) (found_by (k + 1) d (omega arith)))
+
+  -- the first of all is the one that is named
+  pub found : ok_or (find has (map made SHAPES)) NoGrid ≡ result_map record_of (ok_or (named n bs res mark) NoGrid)
   unfolding named
-  found k g h i p e = rw (← i, first_next passes 7 k true h p, e)
-
-  -- past the last shape there is none
-  pub none_found : (k : ℕ) (r : Named) → 7 ≤ k → first_from passes k (7 - k) ≡ first_from passes 0 7 → r ≡ named_of (refused NoGrid)
-      → r ≡ named_of (or_no_grid (named n (first 0 (le + 1) t) (first false le res) mark))
-  unfolding named
-  none_found k r h i e = rw (← i, first-end passes 7 k h) e
+  found = found_by 0 7 refl

@@ -1,9 +1,8 @@
 -- A grid for borders that are named: docs/ORDER.md, R4. What is asked of its record, with no word on how it is found. That the call (`named_grid`,
 -- Shapes.antt) is so for every input is proved in proofs/Chosen.antt and proofs/Limits.antt.
-use Rattle.std.specs.Prelude.{◌≡◌, Bool, true, false, List, [], ◌∷◌, ◌++◌, map, ◌⊎◌, ◌↔◌, ℕ, ◌+◌, ◌≤◌, ◌<◌, ℤ, pos, length}
+use Rattle.std.specs.Prelude.{◌≡◌, Bool, true, false, List, [], ◌∷◌, ◌++◌, map, ◌⊎◌, ◌↔◌, ℕ, ◌+◌, ◌≤◌, ◌<◌, ℤ, pos, length, Ok, Err}
 use Rattle.sbr_grid.specs.declared.Refusal.{Refusal}
 use Rattle.sbr_grid.specs.declared.Refusal.TheVariants.{SlotCount, NoGrid}
-use Rattle.sbr_grid.specs.Refusals.{answered, refused}
 use Rattle.sbr_grid.specs.Grid.{class_code, Grid, view_of, record_of}
 use Rattle.sbr_grid.specs.Times.{Times, is_slot_count}
 use Rattle.sbr_time_grid.specs.TimeGrid.{time_grid}
@@ -20,14 +19,14 @@ use Rattle.sbr_named.specs.Shapes.{named_grid}
 pub record HasNamed (n : ℕ) (borders : List ℤ) (res : List Bool) (mark : ℤ) (g : Grid) : Type 0 where
   pub fits : writable g ≡ true
   pub time : Times
-  pub derived : time_grid n g ≡ answered time
+  pub derived : time_grid n g ≡ Ok time
   pub same_borders : map pos time.t_e ≡ borders
   pub same_mark : time.l_a ≡ mark
   pub same_flags : g.freq_res ≡ res
 
 -- a record is the one that the reader gives for its bits, whatever bits follow
 abbrev pub AsRead : Grid → Type 0
-AsRead g = (rest : List Bool) → sbr_grid (grid_bits g ++ rest) ≡ answered (g, rest)
+AsRead g = (rest : List Bool) → sbr_grid (grid_bits g ++ rest) ≡ Ok (g, rest)
 
 -- ---- their order
 
@@ -54,16 +53,16 @@ pub record FirstNamed (n : ℕ) (borders : List ℤ) (res : List Bool) (mark : �
 -- every answer is that record
 abbrev pub NamedIsFirst : Type 0
 NamedIsFirst =
-    (n : ℕ) (borders : List ℤ) (res : List Bool) (mark : ℤ) (g : Grid) → named_grid n borders res mark ≡ answered g
+    (n : ℕ) (borders : List ℤ) (res : List Bool) (mark : ℤ) (g : Grid) → named_grid n borders res mark ≡ Ok g
     → FirstNamed n borders res mark g
 
 -- a call is refused by 1 exactly where the slot count is neither 15 nor 16, by 10 exactly where it is one of them and no record whatsoever has what is
 -- named, and by nothing else
 pub record NamedRefusals (n : ℕ) (borders : List ℤ) (res : List Bool) (mark : ℤ) : Type 0 where
-  pub slot_count : (named_grid n borders res mark ≡ refused SlotCount) ↔ (is_slot_count n ≡ false)
-  pub no_grid : (named_grid n borders res mark ≡ refused NoGrid)
+  pub slot_count : (named_grid n borders res mark ≡ Err SlotCount) ↔ (is_slot_count n ≡ false)
+  pub no_grid : (named_grid n borders res mark ≡ Err NoGrid)
       ↔ ((is_slot_count n ≡ true) × ((g : Grid) → HasNamed n borders res mark g → ⊥))
-  pub no_other : (e : Refusal) → named_grid n borders res mark ≡ refused e → (e ≡ SlotCount) ⊎ (e ≡ NoGrid)
+  pub no_other : (e : Refusal) → named_grid n borders res mark ≡ Err e → (e ≡ SlotCount) ⊎ (e ≡ NoGrid)
 
 abbrev pub NoGridExactly : Type 0
 NoGridExactly = (n : ℕ) (borders : List ℤ) (res : List Bool) (mark : ℤ) → NamedRefusals n borders res mark
@@ -87,4 +86,4 @@ pub record SameCleared (n : ℕ) (g : Grid) : Type 0 where
   pub read : AsRead (cleared g)
 
 abbrev pub ClearingKeeps : Type 0
-ClearingKeeps = (n : ℕ) (g : Grid) (t : Times) → writable g ≡ true → time_grid n g ≡ answered t → SameCleared n g
+ClearingKeeps = (n : ℕ) (g : Grid) (t : Times) → writable g ≡ true → time_grid n g ≡ Ok t → SameCleared n g

@@ -1,4 +1,5 @@
 -- Writing and reading are inverse: the proofs of specs/Inverse.antt.
+use Rattle.std.specs.Prelude.{Ok}
 use mathlib.Core.Path.{◌≡◌, refl, ap, ◌∙◌, subst}
 use mathlib.Core.Bool.{Bool, true, false, ◌||◌, false≢true}
 use mathlib.Core.List.{List, [], ◌∷◌, ◌++◌, reverse, reverse-reverse}
@@ -11,7 +12,6 @@ use lib.ListN.{length, get_or, replicate, length-reverse}
 use Rattle.bits.specs.Bits.{bits_of}
 use Rattle.sbr_grid.specs.declared.FrameClass.{FrameClass}
 use Rattle.sbr_grid.specs.declared.FrameClass.TheVariants.{FixFix, FixVar, VarFix, VarVar}
-use Rattle.sbr_grid.specs.Refusals.{answered}
 use Rattle.sbr_grid.specs.Grid.{by_class, class_code, class_of, width_from, ptr_bits, Grid, num_env_of}
 use Rattle.sbr_grid.proofs.Widths.{pointer_width}
 use Rattle.sbr_grid.proofs.Laws.{class_of_code, code_lt}
@@ -255,7 +255,7 @@ seen_grid =
     (λ v l. rw (code_of_class v l) at (seen_body (class_of v)))
 
 -- a record that was read, with the bits that it was read from
-pub sent : (bs : List Bool) (g : Grid) (rest : List Bool) → sbr_grid bs ≡ answered (g, rest)
+pub sent : (bs : List Bool) (g : Grid) (rest : List Bool) → sbr_grid bs ≡ Ok (g, rest)
     → (u : List Bool) × (bs ≡ u ++ rest) × Sent g u
 sent bs g rest h = go (seen_grid bs)
   where

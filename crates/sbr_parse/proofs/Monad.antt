@@ -1,4 +1,5 @@
 -- What reading takes from the bits and leaves, for each part that the readers of specs/Syntax.antt are made of.
+use Rattle.std.specs.Prelude.{Ok, Err}
 use mathlib.Core.Path.{◌≡◌, refl, sym, ap, ◌∙◌}
 use mathlib.Core.Bool.{Bool, true, false, cond}
 use mathlib.Core.List.{List, [], ◌∷◌, ◌++◌, append_assoc, append-nil}
@@ -13,7 +14,7 @@ use Rattle.bits.specs.Bits.{bits_of, num_of}
 use Rattle.bits.proofs.Numbers.{length-bits_of, num_bits, bits_num, num_lt}
 use Rattle.sbr_grid.specs.declared.Refusal.{Refusal}
 use Rattle.sbr_grid.specs.declared.Refusal.TheVariants.{BitsEnd, EnvelopeCount}
-use Rattle.sbr_grid.specs.Refusals.{Outcome, answered, refused}
+use Rattle.sbr_grid.specs.Refusals.{Outcome}
 use Rattle.sbr_writer.specs.Syntax.{twos}
 use Rattle.sbr_writer.specs.Write.{every, small}
 use Rattle.sbr_writer.proofs.Writable.{both}
@@ -21,12 +22,12 @@ use Rattle.sbr_parse.specs.Syntax.{Reader, onward, ◌followed_by◌, giving, fl
 
 -- m reads a from the bits u, whatever follows
 pub record Back {A : Type 0} (m : Reader A) (a : A) (u : List Bool) : Type 0 where
-  pub reads : (r : List Bool) → m (u ++ r) ≡ answered (a, r)
+  pub reads : (r : List Bool) → m (u ++ r) ≡ Ok (a, r)
 
 -- what m does at bs: it reads a value from the first bits, at most k; or it refuses, whatever follows where k bits are there
 pub data Seen {A : Type 0} (k : ℕ) (P : A → List Bool → Type 0) (m : Reader A) (bs : List Bool) : Type 0 where
   full : (a : A) (u r : List Bool) → bs ≡ u ++ r → length u ≤ k → P a u → Back m a u → Seen k P m bs
-  none : (e : Refusal) → m bs ≡ refused e → (k ≤ length bs → (ys : List Bool) → m (bs ++ ys) ≡ refused e) → Seen k P m bs
+  none : (e : Refusal) → m bs ≡ Err e → (k ≤ length bs → (ys : List Bool) → m (bs ++ ys) ≡ Err e) → Seen k P m bs
 
 -- what m does at every list of bits
 abbrev pub Reads : {A : Type 0} → ℕ → (A → List Bool → Type 0) → Reader A → Type 0
@@ -40,12 +41,12 @@ Coded P w a u = P a × (u ≡ w a)
 
 -- where the first answers, the second goes on
 then_reads : {A B : Type 0} (m : Reader A) (f : A → Reader B) (bs : List Bool) {r : List Bool} {a : A} {x : Outcome (B × List Bool)}
-    → m bs ≡ answered (a, r) → f a r ≡ x → (m followed_by f) bs ≡ x
+    → m bs ≡ Ok (a, r) → f a r ≡ x → (m followed_by f) bs ≡ x
 unfolding ◌followed_by◌
 then_reads m f bs e h = ap (onward f) e ∙ h
 
 -- where the first refuses, both do
-then_refuses : {A B : Type 0} (m : Reader A) (f : A → Reader B) (bs : List Bool) {e : Refusal} → m bs ≡ refused e → (m followed_by f) bs ≡ refused e
+then_refuses : {A B : Type 0} (m : Reader A) (f : A → Reader B) (bs : List Bool) {e : Refusal} → m bs ≡ Err e → (m followed_by f) bs ≡ Err e
 unfolding ◌followed_by◌
 then_refuses m f bs e = ap (onward f) e
 
@@ -92,7 +93,7 @@ seen_map {w = w} {k = k} h Q n g l q =
 -- ---- the first n bits, for a value h that they stand for
 
 abbrev front : {A : Type 0} → (List Bool → A) → ℕ → Reader A
-front h n bs = cond (leb n (length bs)) (answered (h (take n bs), drop n bs)) (refused BitsEnd)
+front h n bs = cond (leb n (length bs)) (Ok (h (take n bs), drop n bs)) (Err BitsEnd)
 
 back_front : {A : Type 0} (h : List Bool → A) (n : ℕ) (u : List Bool) → length u ≡ n → Back (front h n) (h u) u
 back_front h n u e =

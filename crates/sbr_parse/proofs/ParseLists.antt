@@ -1,25 +1,21 @@
 -- Lists of bits and of digits that are padded to the length of an array.
 use mathlib.Core.Path.{◌≡◌, refl, ◌∙◌}
 use mathlib.Core.Bool.{false}
-use mathlib.Core.List.{◌++◌, append_assoc, reverse, reverse-append, reverse-cons}
+use mathlib.Core.List.{◌++◌, reverse, reverse-append, reverse-cons}
 use Prim.Native.Nat.{ℕ, zero, suc, ◌+◌, ◌-◌, ◌*◌, ◌/◌, ◌%◌, ◌^◌, ◌≤◌, ◌<◌}
-use native.Mathlib.Nat.{zero-add, suc-add, add-zero, zero-div, mul-mod_left, div-eq_of_lt, mod-lt}
+use native.Mathlib.Nat.{zero-add, suc-add, add-zero, zero-div, mul-mod_left, div-eq_of_lt, mod-lt, mod-eq_of_lt}
 use native.Mathlib.Omega.{arith}
 use native.Mathlib.Numerals.{add-one}
-use lib.ListN.{set, replicate, length-replicate, length-reverse, replicate-append-replicate}
-use lib.Seq.{set_at}
-use lib.Pow.{pow_pos, shr-shr, shl-shr, field, mod-mod-pow}
+use lib.ListN.{replicate, length-reverse, replicate-append-replicate}
+use lib.Pow.{pow_pos, shr-shr, shl-shr, shl_exact, field, mod-mod-pow}
 use Rattle.sbr_grid.proofs.First.{first_none, first_pad}
 use Rattle.bits.specs.Bits.{bit_at, bits_of}
 use Rattle.bits.proofs.Numbers.{length-bits_of, bits_of-mod, bits_of_split, bits_of_join}
+use Rattle.sbr_grid.specs.declared.FrameClass.{FrameClass}
+use Rattle.sbr_grid.specs.declared.FrameClass.TheVariants.{FixFix, FixVar, VarFix, VarVar}
 use Rattle.sbr_grid.specs.Grid.{first}
+use Rattle.sbr_parse.specs.Syntax.{ordered}
 use Rattle.sbr_parse.specs.Parse.{twos_of}
-
--- one copy more, stored in a list that is padded
-pub same_more : {A : Type 0} (a d : A) (n i : ℕ) → i < n → set (replicate i a ++ replicate (n - i) d) i a ≡ replicate (i + 1) a ++ replicate (n - (i + 1)) d
-same_more a d n i h =
-    let e : n - i ≡ suc (n - (i + 1)) = omega arith in
-    rw (e, set_at (replicate i a) d (replicate (n - (i + 1)) d) a i (length-replicate i a), ← replicate-append-replicate i 1 a, append_assoc)
 
 -- the bits of 0
 bits_zero : (k : ℕ) → bits_of k 0 ≡ replicate k false
@@ -77,3 +73,28 @@ pad_twos n k v h =
     let e : k + (n - k) ≡ n = omega arith in
     let f : 2 * (n - k) ≡ 2 * n - 2 * k = omega arith in
     rw (← twos-mod k k v (omega arith)) (rw (e, f) at (twos_behind k (n - k) (v % 2 ^ (2 * k))))
+
+-- ---- in the numbers that hold them
+
+-- k lengths in an array of four
+pub lengths_padded : (k v : ℕ) → k ≤ 4 → v < 2 ^ (2 * k) → twos_of 4 (v * 2 ^ (2 * (4 - k)) % 2 ^ 32) ≡ first 0 4 (twos_of k v)
+lengths_padded k v h l =
+    let e : 2 * 4 - 2 * k ≡ 2 * (4 - k) = omega arith in
+    rw (pad_twos 4 k v h, mod-eq_of_lt l, e, shl_exact (2 * k) (2 * (4 - k)) 32 l (omega arith))
+
+-- k flags in an array of five, in their order and from the last one back
+pub flags_padded : (k v : ℕ) → k ≤ 5 → v < 2 ^ k → bits_of 5 (v * 2 ^ (5 - k) % 2 ^ 32) ≡ first false 5 (bits_of k v)
+flags_padded k v h l = rw (pad_bits 5 k v h, mod-eq_of_lt l, shl_exact k (5 - k) 32 l (omega arith))
+
+pub flags_back : (k v : ℕ) → k ≤ 5 → v < 2 ^ k → reverse (bits_of 5 v) ≡ first false 5 (reverse (bits_of k v))
+flags_back k v h l = rw (pad_reverse 5 k v h, mod-eq_of_lt l)
+
+-- the same in the order of the envelopes
+pub flags_last : (c : FrameClass) (k v : ℕ) → c ≡ FixVar → k ≤ 5 → v < 2 ^ k → reverse (bits_of 5 v) ≡ first false 5 (ordered c (bits_of k v))
+flags_last c k v e h l = rw e (flags_back k v h l)
+
+pub flags_first : (c : FrameClass) (k v : ℕ) → (c ≡ FixVar → ⊥) → k ≤ 5 → v < 2 ^ k → bits_of 5 (v * 2 ^ (5 - k) % 2 ^ 32) ≡ first false 5 (ordered c (bits_of k v))
+flags_first FixFix k v e h l = flags_padded k v h l
+flags_first FixVar k v e h l = absurd (e refl)
+flags_first VarFix k v e h l = flags_padded k v h l
+flags_first VarVar k v e h l = flags_padded k v h l

@@ -1,4 +1,5 @@
 -- What readers that take a set number of bits make of the low bits of a number.
+use Rattle.std.specs.Prelude.{Ok, Err}
 use mathlib.Core.Path.{◌≡◌, refl, ap, ◌∙◌}
 use mathlib.Core.Bool.{Bool, cond}
 use mathlib.Core.List.{List, [], ◌∷◌}
@@ -14,17 +15,16 @@ use lib.Seq.{take_at, drop_at}
 use Rattle.bits.specs.Bits.{bits_of, num_of}
 use Rattle.bits.proofs.Numbers.{length-bits_of, bits_of_split, num_from_lem}
 use Rattle.sbr_grid.specs.declared.Refusal.TheVariants.{BitsEnd}
-use Rattle.sbr_grid.specs.Refusals.{answered, refused}
 use Rattle.sbr_parse.specs.Syntax.{Reader, onward, ◌followed_by◌, giving, flags, field, rel_bords}
 use Rattle.sbr_parse.specs.Parse.{twos_of}
 
 -- fewer than w bits are refused with 7
 abbrev pub Short : {A : Type 0} → ℕ → Reader A → Type 0
-Short w r = (n v : ℕ) → n < w → r (bits_of n v) ≡ refused BitsEnd
+Short w r = (n v : ℕ) → n < w → r (bits_of n v) ≡ Err BitsEnd
 
 -- r takes w bits and gives f of the number that ends in them; fewer bits are refused
 pub record Takes {A : Type 0} (w : ℕ) (f : ℕ → A) (r : Reader A) : Type 0 where
-  pub reads : (n m v : ℕ) → n ≡ w + m → r (bits_of n v) ≡ answered (f (v / 2 ^ m), bits_of m v)
+  pub reads : (n m v : ℕ) → n ≡ w + m → r (bits_of n v) ≡ Ok (f (v / 2 ^ m), bits_of m v)
   pub short : Short w r
 
 -- a value that is there takes no bits
@@ -42,7 +42,7 @@ pub then_short : {A B : Type 0} {w : ℕ} {f : ℕ → A} {r : Reader A} (g : A 
 unfolding ◌followed_by◌
 then_short {w = w} {r = r} g k t s n v h = go (dec_lt n w)
   where
-    go : Dec (n < w) → (r followed_by g) (bits_of n v) ≡ refused BitsEnd
+    go : Dec (n < w) → (r followed_by g) (bits_of n v) ≡ Err BitsEnd
     go (yes l) = ap (onward g) (t.short n v l)
     go (no l) = then_reads g t n (n - w) v (omega arith) ∙ s _ (n - w) v (omega arith)
 
@@ -55,7 +55,7 @@ takes_then {w = w} {k} {f} {h} {r} g t s = record {
 }
 
 -- w bits are taken, and h is made of them
-takes_bits : {A : Type 0} (w : ℕ) (h : List Bool → A) → Takes w (λ v. h (bits_of w v)) (λ bs. cond (leb w (length bs)) (answered (h (take w bs), drop w bs)) (refused BitsEnd))
+takes_bits : {A : Type 0} (w : ℕ) (h : List Bool → A) → Takes w (λ v. h (bits_of w v)) (λ bs. cond (leb w (length bs)) (Ok (h (take w bs), drop w bs)) (Err BitsEnd))
 takes_bits w h = record {
   reads = λ n m v e. rw (e, length-bits_of (w + m) v, le-leb w (w + m) (omega arith), bits_of_split w m v, take_at (bits_of w (v / 2 ^ m)) (bits_of m v) w (length-bits_of w (v / 2 ^ m)), drop_at (bits_of w (v / 2 ^ m)) (bits_of m v) w (length-bits_of w (v / 2 ^ m)));
   short = λ n v l. rw (length-bits_of n v, lt-leb w n l);

@@ -1,6 +1,5 @@
 -- Writing and reading sbr_grid() are inverse: the statements, proved in proofs/Inverse.antt.
-use Rattle.std.specs.Prelude.{◌≡◌, Bool, true, List, [], ◌++◌, leb}
-use Rattle.sbr_grid.specs.Refusals.{answered}
+use Rattle.std.specs.Prelude.{◌≡◌, Bool, true, List, [], ◌++◌, leb, Ok}
 use Rattle.sbr_grid.specs.Grid.{by_class, Grid, num_env_of}
 use Rattle.sbr_writer.specs.Syntax.{grid_bits}
 use Rattle.sbr_writer.specs.Write.{writable}
@@ -16,7 +15,7 @@ cleared g =
 
 -- what any writable record writes is read back, whatever bits follow
 abbrev pub ReadsBack : Type 0
-ReadsBack = (g : Grid) (rest : List Bool) → writable g ≡ true → sbr_grid (grid_bits g ++ rest) ≡ answered (cleared g, rest)
+ReadsBack = (g : Grid) (rest : List Bool) → writable g ≡ true → sbr_grid (grid_bits g ++ rest) ≡ Ok (cleared g, rest)
 
 -- a record is writable, has what its class does not send cleared, and writes the bits bs up to the rest
 pub record WrittenAs (bs : List Bool) (g : Grid) (rest : List Bool) : Type 0 where
@@ -27,5 +26,5 @@ pub record WrittenAs (bs : List Bool) (g : Grid) (rest : List Bool) : Type 0 whe
 -- every record that was read is so, unless its pointer is above its envelope count: fields of 2 and 3 bits have room for that
 abbrev pub WritesBack : Type 0
 WritesBack =
-    (bs : List Bool) (g : Grid) (rest : List Bool) → sbr_grid bs ≡ answered (g, rest) → leb g.pointer (num_env_of g) ≡ true
+    (bs : List Bool) (g : Grid) (rest : List Bool) → sbr_grid bs ≡ Ok (g, rest) → leb g.pointer (num_env_of g) ≡ true
     → WrittenAs bs g rest

@@ -1,34 +1,23 @@
 -- Reading from bits that are held in one number.
-use Rattle.std.specs.Prelude.{◌≡◌, Bool, List, [], ◌∷◌, ℕ, zero, suc, ◌+◌, ◌-◌, ◌*◌, ◌/◌, ◌%◌, ◌^◌, ◌≤◌, ◌<◌, length}
+use Rattle.std.specs.Prelude.{Bool, List, [], ◌∷◌, ℕ, zero, suc, ◌-◌, ◌*◌, ◌/◌, ◌%◌, ◌^◌, leb, length, Ok}
 use Rattle.bits.specs.Bits.{bits_of}
 use Rattle.bits.specs.declared.Window.{Window}
-use Rattle.sbr_grid.specs.Refusals.{Outcome, answer_of, value_or}
-use Rattle.sbr_grid.specs.Grid.{Grid, record_of, empty}
+use Rattle.sbr_grid.specs.declared.Refusal.TheVariants.{BitsEnd}
+use Rattle.sbr_grid.specs.Refusals.{Outcome, unless}
+use Rattle.sbr_grid.specs.Grid.{Grid, record_of}
 use Rattle.sbr_parse.specs.declared.Parsed.{Parsed}
 
--- a window of at most 32 bits
-pub record Bits (w : Window) : Type 0 where
-  pub short : w.width ≤ 32
-  pub small : w.value < 2 ^ w.width
-
 -- what a program hands out for a reading: the record, and how many bits are left
-abbrev pub parsed_of : Outcome (Grid × List Bool) → Parsed
-parsed_of o = record {
-  answer = answer_of o;
-  grid = value_or (λ r. record_of r.0) empty o;
-  left = value_or (λ r. length r.1) 0 o;
-}
+abbrev pub parsed : Grid × List Bool → Parsed
+parsed r = record { grid = record_of r.0; left = length r.1 }
 
 -- the bits of a window
 abbrev pub window_bits : Window → List Bool
 window_bits w = bits_of w.width w.value
 
--- a and b are the first two numbers of two bits each, and r has the bits behind them
-pub record Paired (w : Window) (a b : ℕ) (r : Window) : Type 0 where
-  pub first : a ≡ w.value / 2 ^ (r.width + 2) % 4
-  pub second : b ≡ w.value / 2 ^ r.width % 4
-  pub value : r.value ≡ w.value
-  pub width : r.width ≡ w.width - 4
+-- the first n bits of a window as a number, and a window of the bits behind them
+abbrev pub taken : ℕ → Window → Outcome (ℕ × Window)
+taken n w = unless (leb n w.width) BitsEnd (Ok (w.value / 2 ^ (w.width - n) % 2 ^ n, record { value = w.value; width = w.width - n }))
 
 -- the last k digits of v to the base 4, the most significant first
 unfoldable pub twos_of : ℕ → ℕ → List ℕ

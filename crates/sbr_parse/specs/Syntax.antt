@@ -1,11 +1,11 @@
 -- sbr_grid() read: ISO/IEC 14496-3, Table 4.69, field by field. Bits that end too soon are refused where the field is read (7), a count
 -- that no frame has directly after the last count field (8): docs/ORDER.md, RD-14 to RD-18.
-use Rattle.std.specs.Prelude.{Bool, true, false, cond, ◌&&◌, List, [], ◌∷◌, reverse, ℕ, zero, suc, ◌+◌, ◌^◌, leb, eqb, length, take, drop, get_or, replicate}
+use Rattle.std.specs.Prelude.{Bool, true, false, cond, ◌&&◌, List, [], ◌∷◌, reverse, ℕ, zero, suc, ◌+◌, ◌^◌, leb, eqb, length, take, drop, get_or, replicate, Ok, Err}
 use Rattle.bits.specs.Bits.{num_of}
 use Rattle.sbr_grid.specs.declared.FrameClass.{FrameClass}
 use Rattle.sbr_grid.specs.declared.FrameClass.TheVariants.{FixFix, FixVar, VarFix, VarVar}
 use Rattle.sbr_grid.specs.declared.Refusal.TheVariants.{BitsEnd, EnvelopeCount}
-use Rattle.sbr_grid.specs.Refusals.{Outcome, answered, refused, unless}
+use Rattle.sbr_grid.specs.Refusals.{Outcome, unless}
 use Rattle.sbr_grid.specs.Grid.{by_class, class_of, ptr_bits, noise_of, Grid, made}
 
 infixl 20 ◌followed_by◌
@@ -15,8 +15,8 @@ Reader A = List Bool → Outcome (A × List Bool)
 
 -- the next reader goes on behind what was read; a refusal stays
 abbrev pub onward : {A B : Type 0} → (A → Reader B) → Outcome (A × List Bool) → Outcome (B × List Bool)
-onward f (answered p) = f p.0 p.1
-onward f (refused e) = refused e
+onward f (Ok p) = f p.0 p.1
+onward f (Err e) = Err e
 
 -- one reader after another, which is given what the first read
 unfoldable pub ◌followed_by◌ : {A B : Type 0} → Reader A → (A → Reader B) → Reader B
@@ -24,15 +24,15 @@ m followed_by f = λ bs. onward f (m bs)
 
 -- a value that takes no bits
 abbrev pub giving : {A : Type 0} → A → Reader A
-giving a = λ bs. answered (a, bs)
+giving a = λ bs. Ok (a, bs)
 
 -- n flags of a bit each
 unfoldable pub flags : ℕ → Reader (List Bool)
-flags n bs = unless (leb n (length bs)) BitsEnd (answered (take n bs, drop n bs))
+flags n bs = unless (leb n (length bs)) BitsEnd (Ok (take n bs, drop n bs))
 
 -- a number of w bits
 unfoldable pub field : ℕ → Reader ℕ
-field w bs = unless (leb w (length bs)) BitsEnd (answered (num_of (take w bs), drop w bs))
+field w bs = unless (leb w (length bs)) BitsEnd (Ok (num_of (take w bs), drop w bs))
 
 -- k stored lengths of two bits each
 unfoldable pub rel_bords : ℕ → Reader (List ℕ)
@@ -44,7 +44,7 @@ rel_bords (suc k) =
 
 -- the envelope count is one that a frame has
 unfoldable pub checked_count : Bool → ℕ → Reader ℕ
-checked_count ok n bs = unless ok EnvelopeCount (answered (n, bs))
+checked_count ok n bs = unless ok EnvelopeCount (Ok (n, bs))
 
 -- the record of what was read: fields that the class does not send are 0 or empty
 abbrev pub received : FrameClass → List Bool → ℕ → ℕ → List ℕ → List ℕ → ℕ → Grid

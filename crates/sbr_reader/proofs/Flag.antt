@@ -1,4 +1,5 @@
 -- The flag of a frame, and what depends on the flag that is handed in.
+use Rattle.std.specs.Prelude.{Ok, Err}
 use mathlib.Core.Path.{◌≡◌, refl, sym, ap, ◌∙◌}
 use mathlib.Core.Bool.{Bool, true, false}
 use mathlib.Core.List.{List}
@@ -12,7 +13,7 @@ use Rattle.bits.specs.Room.{bits_from}
 use Rattle.sbr_grid.specs.declared.FrameClass.{FrameClass}
 use Rattle.sbr_grid.specs.declared.FrameClass.TheVariants.{FixFix, FixVar, VarFix, VarVar}
 use Rattle.sbr_grid.specs.declared.Refusal.TheVariants.{SlotCount, Chain}
-use Rattle.sbr_grid.specs.Refusals.{Outcome, answered, refused, unless}
+use Rattle.sbr_grid.specs.Refusals.{Outcome, unless}
 use Rattle.sbr_grid.specs.Grid.{Grid, num_env_of}
 use Rattle.sbr_grid.specs.Times.{Times, is_number, is_slot_count}
 use Rattle.sbr_grid.proofs.Number.{number_so, number_is}
@@ -73,18 +74,18 @@ module _ (n : ℕ) (b : ℤ) (a : Bool) where
   abbrev given : Carried
   given = record { border = b; attack = a }
 
-  met-told : (g : Grid) (q : ℕ) (t : Times) (m : Bool) → unless m Chain (answered (frame_of a g q t)) ≡ begun a (unless m Chain (answered (frame_of false g q t)))
+  met-told : (g : Grid) (q : ℕ) (t : Times) (m : Bool) → unless m Chain (Ok (frame_of a g q t)) ≡ begun a (unless m Chain (Ok (frame_of false g q t)))
   met-told g q t true = refl
   met-told g q t false = refl
 
   timed-told : (g : Grid) (q : ℕ) (o : Outcome Times) → timed n given g q o ≡ begun a (timed n (starting b) g q o)
   unfolding meets
-  timed-told g q (answered t) = met-told g q t (is_number b (get_or t.t_e 0 0 + n))
-  timed-told g q (refused e) = refl
+  timed-told g q (Ok t) = met-told g q t (is_number b (get_or t.t_e 0 0 + n))
+  timed-told g q (Err e) = refl
 
   parsed-told : (p len : ℕ) (o : Outcome (Grid × List Bool)) → parsed n given p len o ≡ begun a (parsed n (starting b) p len o)
-  parsed-told p len (answered r) = timed-told r.0 (p + (len - length r.1)) (time_grid n r.0)
-  parsed-told p len (refused e) = refl
+  parsed-told p len (Ok r) = timed-told r.0 (p + (len - length r.1)) (time_grid n r.0)
+  parsed-told p len (Err e) = refl
 
   slots-told : (s : Bool) (o o' : Outcome Accepted) → o ≡ begun a o' → unless s SlotCount o ≡ begun a (unless s SlotCount o')
   slots-told true o o' e = e

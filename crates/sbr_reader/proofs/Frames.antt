@@ -1,4 +1,5 @@
 -- Every frame that reading accepts can be written again.
+use Rattle.std.specs.Prelude.{Ok}
 use mathlib.Core.Path.{◌≡◌, refl, ap}
 use mathlib.Core.Bool.{Bool, ◌&&◌}
 use mathlib.Core.List.{List}
@@ -11,7 +12,6 @@ use lib.ListN.{length, length-append}
 use Rattle.bits.specs.Room.{bits_from}
 use Rattle.sbr_grid.specs.declared.FrameClass.{FrameClass}
 use Rattle.sbr_grid.specs.declared.FrameClass.TheVariants.{FixFix, FixVar, VarFix, VarVar}
-use Rattle.sbr_grid.specs.Refusals.{answered}
 use Rattle.sbr_grid.specs.Grid.{width_from, ptr_bits, Grid, num_env_of}
 use Rattle.sbr_grid.specs.Times.{Times, is_slot_count}
 use Rattle.sbr_grid.proofs.Outcomes.{unless_answered}
@@ -42,7 +42,7 @@ inside VarFix g e f l a b = pointer_to g.pointer (num_env_of g) l (rw e at b)
 inside VarVar g e f l a b = pointer_from g.pointer (num_env_of g) l (rw e at a)
 
 -- a frame of two or more envelopes that has a time grid has a pointer of at most its envelope count
-pub time_pointer : (n : ℕ) (g : Grid) (t : Times) → time_grid n g ≡ answered t → 1 < num_env_of g → (g.frame_class ≡ FixFix → ⊥)
+pub time_pointer : (n : ℕ) (g : Grid) (t : Times) → time_grid n g ≡ Ok t → 1 < num_env_of g → (g.frame_class ≡ FixFix → ⊥)
     → g.pointer ≤ num_env_of g
 unfolding time_grid noise_fits
 time_pointer n g t h l f =
@@ -68,7 +68,7 @@ narrow_one p (suc zero) l h = omega arith
 narrow_one p (suc (suc k)) l h = absurd (omega arith)
 
 -- a record that was read and has a time grid has a pointer of at most its envelope count
-pointed : (n : ℕ) (g : Grid) (t : Times) (u : List Bool) → Sent g u → time_grid n g ≡ answered t
+pointed : (n : ℕ) (g : Grid) (t : Times) (u : List Bool) → Sent g u → time_grid n g ≡ Ok t
     → Dec (num_env_of g ≤ 1) → Dec (g.frame_class ≡ FixFix) → g.pointer ≤ num_env_of g
 pointed n g t u s h (yes l) d = narrow_one g.pointer (num_env_of g) l s.narrow
 pointed n g t u s h (no l) (yes e) = omega (arith, rw e at (ap (λ x. x.pointer) s.clear))

@@ -1,8 +1,8 @@
 -- What the flag beside the carried border is: the statements. Proved in proofs/Flag.antt.
-use Rattle.std.specs.Prelude.{◌≡◌, Bool, true, false, List, ℕ, eqb, ℤ, pos}
+use Rattle.std.specs.Prelude.{◌≡◌, Bool, true, false, List, ℕ, eqb, ℤ, pos, Ok, Err}
 use Rattle.sbr_grid.specs.declared.FrameClass.{FrameClass}
 use Rattle.sbr_grid.specs.declared.FrameClass.TheVariants.{VarFix}
-use Rattle.sbr_grid.specs.Refusals.{Outcome, answered, refused}
+use Rattle.sbr_grid.specs.Refusals.{Outcome}
 use Rattle.sbr_grid.specs.Grid.{by_class, num_env_of}
 use Rattle.sbr_reader.specs.declared.Carried.{Carried}
 use Rattle.sbr_reader.specs.Read.{Accepted, read_grid, starting}
@@ -20,11 +20,11 @@ pub record FlagOf (f : Accepted) : Type 0 where
 
 -- of every frame that can be read
 abbrev pub FlagExactly : Type 0
-FlagExactly = (l : List ℕ) (p n : ℕ) (c : Carried) (f : Accepted) → read_grid l p n c ≡ answered f → FlagOf f
+FlagExactly = (l : List ℕ) (p n : ℕ) (c : Carried) (f : Accepted) → read_grid l p n c ≡ Ok f → FlagOf f
 
 -- a reading whose frame, if there is one, begins on an attack where a is set
 abbrev pub begun : Bool → Outcome Accepted → Outcome Accepted
-begun a (answered f) = answered (record {
+begun a (Ok f) = Ok (record {
   grid = f.grid;
   time = f.time;
   begins_on_attack = a;
@@ -32,7 +32,7 @@ begun a (answered f) = answered (record {
   border = f.border;
   ends_on_attack = f.ends_on_attack;
 })
-begun a (refused e) = refused e
+begun a (Err e) = Err e
 
 -- the flag that is handed in is told of the frame, and nothing else depends on it
 abbrev pub FlagOnlyTold : Type 0

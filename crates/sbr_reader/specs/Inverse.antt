@@ -1,7 +1,6 @@
 -- Every frame that a reading accepts can be written again: the statement, proved in proofs/Frames.antt.
-use Rattle.std.specs.Prelude.{◌≡◌, Bool, List, ℕ, ◌+◌, length}
+use Rattle.std.specs.Prelude.{◌≡◌, Bool, List, ℕ, ◌+◌, length, Ok}
 use Rattle.bits.specs.Room.{bits_from}
-use Rattle.sbr_grid.specs.Refusals.{answered}
 use Rattle.sbr_grid.specs.Grid.{view_of, record_of}
 use Rattle.sbr_writer.specs.Syntax.{grid_bits}
 use Rattle.sbr_parse.specs.Inverse.{WrittenAs}
@@ -17,4 +16,4 @@ pub record Rewritten (bs : List Bool) (p : ℕ) (f : Accepted) : Type 0 where
 
 abbrev pub FrameWrites : Type 0
 FrameWrites =
-    (l : List ℕ) (p n : ℕ) (c : Carried) (f : Accepted) → read_grid l p n c ≡ answered f → Rewritten (bits_from l p) p f
+    (l : List ℕ) (p n : ℕ) (c : Carried) (f : Accepted) → read_grid l p n c ≡ Ok f → Rewritten (bits_from l p) p f

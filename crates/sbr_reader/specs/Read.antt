@@ -1,11 +1,11 @@
 -- What a reading comes to: docs/ORDER.md, RD. Refused by 1, then 7 or 8 as fields come, 6, 9.
-use Rattle.std.specs.Prelude.{Bool, false, List, ℕ, ◌+◌, ◌-◌, ℤ, pos, length, get_or}
+use Rattle.std.specs.Prelude.{Bool, false, List, ℕ, ◌+◌, ◌-◌, ℤ, pos, length, get_or, Ok, Err}
 use Rattle.bits.specs.Room.{bits_from}
 use Rattle.sbr_grid.specs.declared.Refusal.TheVariants.{SlotCount, Chain}
-use Rattle.sbr_grid.specs.Refusals.{Outcome, answered, refused, answer_of, value_or, unless}
-use Rattle.sbr_grid.specs.Grid.{Grid, num_env_of, record_of, empty}
+use Rattle.sbr_grid.specs.Refusals.{Outcome, unless}
+use Rattle.sbr_grid.specs.Grid.{Grid, num_env_of, record_of}
 use Rattle.sbr_grid.specs.declared.TimeGrid.{TimeGrid}
-use Rattle.sbr_grid.specs.Times.{Times, is_number, is_slot_count, time_record, empty_time}
+use Rattle.sbr_grid.specs.Times.{Times, is_number, is_slot_count, time_record}
 use Rattle.sbr_time_grid.specs.TimeGrid.{time_grid}
 use Rattle.sbr_parse.specs.Syntax.{sbr_grid}
 use Rattle.sbr_reader.specs.declared.Carried.{Carried}
@@ -29,7 +29,7 @@ marks_end g t = is_number t.l_a (num_env_of g)
 unfoldable pub meets : ℕ → Carried → Grid → ℕ → Times → Outcome Accepted
 meets n c g q t =
     unless (is_number c.border (get_or t.t_e 0 0 + n)) Chain
-    (answered (record {
+    (Ok (record {
       grid = g;
       time = t;
       begins_on_attack = c.attack;
@@ -40,13 +40,13 @@ meets n c g q t =
 
 -- 6: the record read has a time grid
 abbrev pub timed : ℕ → Carried → Grid → ℕ → Outcome Times → Outcome Accepted
-timed n c g q (answered t) = meets n c g q t
-timed n c g q (refused e) = refused e
+timed n c g q (Ok t) = meets n c g q t
+timed n c g q (Err e) = Err e
 
 -- 7 and 8: the bits from p on, of which len are at hand, begin with a record
 abbrev pub parsed : ℕ → Carried → ℕ → ℕ → Outcome (Grid × List Bool) → Outcome Accepted
-parsed n c p len (answered r) = timed n c r.0 (p + (len - length r.1)) (time_grid n r.0)
-parsed n c p len (refused e) = refused e
+parsed n c p len (Ok r) = timed n c r.0 (p + (len - length r.1)) (time_grid n r.0)
+parsed n c p len (Err e) = Err e
 
 unfoldable pub read_grid : List ℕ → ℕ → ℕ → Carried → Outcome Accepted
 read_grid l p n c = unless (is_slot_count n) SlotCount (parsed n c p (length (bits_from l p)) (sbr_grid (bits_from l p)))
@@ -65,13 +65,12 @@ left_by t = record {
   attack = is_number t.l_a t.num_env;
 }
 
--- what a program hands out for a reading; position and what is carried are as before where it is refused
-abbrev pub frame_read_of : ℕ → Carried → Outcome Accepted → FrameRead
-frame_read_of p c o = record {
-  answer = answer_of o;
-  grid = value_or (λ f. record_of f.grid) empty o;
-  time = value_or (λ f. time_record f.time) empty_time o;
-  begins_on_attack = value_or (λ f. f.begins_on_attack) false o;
-  position = value_or (λ f. f.position) p o;
-  carried = value_or (λ f. carrying f.border f.ends_on_attack) c o;
+-- what a program hands out for an accepted frame
+abbrev pub frame_read : Accepted → FrameRead
+frame_read f = record {
+  grid = record_of f.grid;
+  time = time_record f.time;
+  begins_on_attack = f.begins_on_attack;
+  position = f.position;
+  carried = carrying f.border f.ends_on_attack;
 }

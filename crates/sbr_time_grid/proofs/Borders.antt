@@ -57,17 +57,19 @@ lead_by FixVar s m l num rel h = refl
 lead_by VarFix s m l num rel h = rw (first-get_or 0 num l rel h)
 lead_by VarVar s m l num rel h = rw (first-get_or 0 num l rel h)
 
--- the slots of a leading length, read off the record
-pub lead_read : (g : SbrGrid) (n l : ℕ) → l < n_rel_lead (view_of g)
-    → by_class g.frame_class (nint n g.num_env) 0 (slots (get_or g.rel_bord_0 l 0)) (slots (get_or g.rel_bord_0 l 0)) ≡ rel_bord_lead n (view_of g) l
+-- the slots of a leading length, read off those in use of the record
+pub lead_read : (g : SbrGrid) (n l k : ℕ) (rel : List ℕ) → k ≡ n_rel_lead (view_of g) → rel ≡ first 0 k g.rel_bord_0 → l < k
+    → let raw = get_or rel l 0 in by_class g.frame_class (nint n g.num_env) 0 (slots raw) (slots raw) ≡ rel_bord_lead n (view_of g) l
 unfolding rel_bord_lead n_rel_lead
-lead_read g n l h =
-    rw (lengths g).env
-    (lead_by g.frame_class _ (g.num_env - 1) l g.num_rel_0 g.rel_bord_0 (rw ((lengths g).env, (lengths g).rel0) at h))
+lead_read g n l k rel e r h =
+    rw (r, first-get_or 0 k l g.rel_bord_0 h, (lengths g).env)
+    (lead_by g.frame_class _ (g.num_env - 1) l g.num_rel_0 g.rel_bord_0 (rw ((lengths g).env, (lengths g).rel0) at (rw e at h)))
 
 -- and of a trailing one
-pub trail_read : (g : SbrGrid) (l : ℕ) → l < n_rel_trail (view_of g) → slots (get_or g.rel_bord_1 l 0) ≡ rel_bord_trail (view_of g) l
-trail_read g l h = rw (first-get_or 0 g.num_rel_1 l g.rel_bord_1 (omega (arith, trail_used (view_of g), lengths g)))
+pub trail_read : (g : SbrGrid) (l k : ℕ) (rel : List ℕ) → k ≡ n_rel_trail (view_of g) → rel ≡ first 0 k g.rel_bord_1 → l < k
+    → slots (get_or rel l 0) ≡ rel_bord_trail (view_of g) l
+trail_read g l k rel e r h =
+    rw (r, first-get_or 0 k l g.rel_bord_1 h, first-get_or 0 g.num_rel_1 l g.rel_bord_1 (omega (arith, trail_used (view_of g), lengths g)))
 
 -- the last border
 pub trail_first : (f : ℕ → ℕ) (a : ℕ) → a ≡ a - slot_sum f 0

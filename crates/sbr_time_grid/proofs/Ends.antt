@@ -1,4 +1,5 @@
 -- What an answer of `time_grid` tells: the tests that it passed, and the first and the last border.
+use Rattle.std.specs.Prelude.{Ok}
 use mathlib.Core.Path.{◌≡◌, refl}
 use mathlib.Core.Bool.{true, ◌&&◌, and-eq-true_iff}
 use Prim.Native.Nat.{ℕ, ◌+◌, ◌≤◌, ◌<◌}
@@ -9,7 +10,6 @@ use lib.Dec.{leb}
 use lib.ListN.{length, get_or}
 use Rattle.sbr_grid.specs.declared.FrameClass.{FrameClass}
 use Rattle.sbr_grid.specs.declared.FrameClass.TheVariants.{FixFix, FixVar, VarFix, VarVar}
-use Rattle.sbr_grid.specs.Refusals.{answered}
 use Rattle.sbr_grid.specs.Grid.{by_class, Grid, num_env_of}
 use Rattle.sbr_grid.specs.Times.{Times, is_slot_count}
 use Rattle.sbr_grid.proofs.Outcomes.{unless_answered}
@@ -24,7 +24,7 @@ pub record Passed (n : ℕ) (g : Grid) (t : Times) : Type 0 where
   pub value : t ≡ times n g
 
 -- a record that has a time grid passes the tests, and its time grid is made of its borders
-pub time_passes : (n : ℕ) (g : Grid) (t : Times) → time_grid n g ≡ answered t → Passed n g t
+pub time_passes : (n : ℕ) (g : Grid) (t : Times) → time_grid n g ≡ Ok t → Passed n g t
 unfolding time_grid
 time_passes n g t e =
     let s = unless_answered (is_slot_count n) _ _ e in
@@ -70,7 +70,7 @@ ends n g c b =
     }
 
 -- an answer has its ends within these bounds
-pub time_ends : (n : ℕ) (g : Grid) (t : Times) → time_grid n g ≡ answered t → Ends n g t
+pub time_ends : (n : ℕ) (g : Grid) (t : Times) → time_grid n g ≡ Ok t → Ends n g t
 time_ends n g t e =
     let p = time_passes n g t e in
     let q = simp and-eq-true_iff at p.tests in

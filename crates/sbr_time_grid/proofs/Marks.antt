@@ -1,14 +1,9 @@
--- Laws of the tables by bs_pointer, and of the signed difference that gives the mark.
+-- Laws of the tables by bs_pointer, and of the border at which two noise floors meet.
 use mathlib.Core.Path.{◌≡◌, refl}
 use mathlib.Core.Bool.{true, and-eq-true_iff}
-use Prim.Native.Nat.{ℕ, zero, suc, ◌+◌, ◌^◌, ◌≤◌, ◌<◌}
-use native.Mathlib.Decide.{dec_le}
+use Prim.Native.Nat.{ℕ, zero, suc, ◌<◌}
 use native.Mathlib.Omega.{arith}
-use borrow.Author.Tests.{ltb-true, lt-ltb, le-ltb, lt-leb}
-use lib.IntN.{pos, ◌+ℤ◌, ◌-ℤ◌}
-use mir.Syntax.{w32}
-use mir.Val.{SFits, to_z, of_z}
-use mir.ValLaws.{to_z_pos}
+use borrow.Author.Tests.{ltb-true, lt-leb}
 use Rattle.sbr_grid.specs.Grid.{Grid, num_env_of}
 use Rattle.sbr_time_grid.specs.TimeGrid.{by_pointer, middle_border, noise_fits}
 
@@ -36,18 +31,3 @@ unfolding noise_fits
 noise_meet g e h =
     let p = simp and-eq-true_iff at (rw (lt-leb (num_env_of g) 1 h) at e) in
     ltb-true (middle_border g) (num_env_of g) p.1
-
--- the next law for a difference with a number above 0
-less : (a b : ℕ) → a < 2 ^ 31 → b < 2 ^ 31 → Dec (suc a ≤ suc b) → SFits w32 (pos a -ℤ pos (suc b))
-less a b h k (yes l) = rw (lt-ltb a (suc b) (omega arith)) (record { sfits = omega arith })
-less a b h k (no l) = rw (le-ltb a (suc b) (omega arith)) (record { sfits = omega arith })
-
--- the difference of two small numbers fits
-pub sub_fits : (a b : ℕ) → a < 2 ^ 31 → b < 2 ^ 31 → SFits w32 (pos a -ℤ pos b)
-sub_fits a zero h k = record { sfits = omega arith }
-sub_fits a (suc b) h k = less a b h (omega arith) (dec_le (suc a) (suc b))
-
--- the same of the bits of a sum and of a number
-pub mark_fits : (a k b : ℕ) → a + k < 2 ^ 31 → b < 2 ^ 31 → SFits w32 (to_z w32 (of_z w32 (to_z w32 a +ℤ pos k)) -ℤ to_z w32 b)
-mark_fits a k b h i =
-    rw (to_z_pos w32 a (omega arith), to_z_pos w32 (a + k) h, to_z_pos w32 b i) (sub_fits (a + k) b h i)

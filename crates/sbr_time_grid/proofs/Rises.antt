@@ -1,6 +1,11 @@
 -- Laws of `rises`: one number more, the two ways that the test ends, and how far numbers that rise are apart.
+use Rattle.std.specs.Prelude.{nat_lt}
+use Rattle.std.specs.List.{list_all, zip}
 use mathlib.Core.Path.{◌≡◌, refl, ◌∙◌}
-use mathlib.Core.Bool.{true, false, and-false, false≢true}
+use mathlib.Core.Bool.{true, false, ◌&&◌, and-false, and-true, and_assoc, false≢true}
+use mathlib.Core.List.{List, [], ◌∷◌}
+use lib.Dec.{ltb}
+use lib.ListN.{length, get_or, drop}
 use Prim.Native.Nat.{ℕ, zero, suc, ◌+◌, ◌-◌, ◌≤◌, ◌<◌}
 use native.Mathlib.Omega.{arith}
 use native.Mathlib.Decide.{dec_le}
@@ -52,3 +57,21 @@ pub rises_gap : (f : ℕ → ℕ) (k i j : ℕ) → rises f k ≡ true → i ≤
 rises_gap f k i j e h l =
     let p : i + (j - i) ≡ j = omega arith in
     rw p at (rises_by f k i (j - i) e (omega arith))
+
+-- the first step, and the others
+rises_front : (f : ℕ → ℕ) (k : ℕ) → (ltb (f zero) (f (suc zero)) && rises (λ j. f (suc j)) k) ≡ rises f (suc k)
+unfolding rises
+rises_front f zero = and-true (ltb (f zero) (f (suc zero)))
+rises_front f (suc k) = rw (← rises_front f k, and_assoc)
+
+-- the next law for a list that begins with x
+rises_list : (x : ℕ) (xs : List ℕ) → list_all (λ p. nat_lt p.0 p.1) (zip (x ∷ xs) xs) ≡ rises (λ l. get_or (x ∷ xs) l 0) (length xs)
+unfolding rises
+rises_list x [] = refl
+rises_list x (y ∷ xs) = rw (rises_list y xs) (rises_front (λ l. get_or (x ∷ (y ∷ xs)) l 0) (length xs))
+
+-- the test of each number of a list and the next one is the test of the list by place
+pub rises_all : (xs : List ℕ) → list_all (λ p. nat_lt p.0 p.1) (zip xs (drop 1 xs)) ≡ rises (λ l. get_or xs l 0) (length xs - 1)
+unfolding rises
+rises_all [] = refl
+rises_all (x ∷ xs) = let e : length (x ∷ xs) - 1 ≡ length xs = omega arith in rw e (rises_list x xs)

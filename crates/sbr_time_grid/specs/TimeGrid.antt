@@ -1,13 +1,12 @@
 -- Time borders of a grid: ISO/IEC 14496-3, 4.6.18.3.3 with Tables 4.174 and 4.176. L_E is the envelope count.
 -- Borders are whole numbers from 0 on. A difference that would fall below 0 is 0 here: like the negative number it is not above
 -- the border before it, so the grid is refused either way.
-use Rattle.std.specs.Prelude.{◌≡◌, Bool, true, cond, ◌&&◌, List, [], ◌∷◌, ℕ, zero, suc, ◌+◌, ◌-◌, ◌*◌, ◌/◌, ◌≤◌, leb, ltb, eqb, ℤ, pos, negsuc, ◌-ℤ◌, length, get_or}
+use Rattle.std.specs.Prelude.{◌≡◌, Bool, true, cond, ◌&&◌, List, [], ◌∷◌, ℕ, zero, suc, ◌+◌, ◌-◌, ◌*◌, ◌/◌, ◌≤◌, leb, ltb, eqb, ℤ, pos, negsuc, ◌-ℤ◌, length, get_or, Ok}
 use Rattle.sbr_grid.specs.declared.FrameClass.{FrameClass}
 use Rattle.sbr_grid.specs.declared.Refusal.TheVariants.{SlotCount, TimeGrid}
-use Rattle.sbr_grid.specs.Refusals.{Outcome, answered, answer_of, value_or, unless}
+use Rattle.sbr_grid.specs.Refusals.{Outcome, unless}
 use Rattle.sbr_grid.specs.Grid.{by_class, Grid, num_env_of}
-use Rattle.sbr_grid.specs.Times.{Times, is_slot_count, time_record, empty_time}
-use Rattle.sbr_time_grid.specs.declared.Derived.{Derived}
+use Rattle.sbr_grid.specs.Times.{Times, is_slot_count}
 
 -- a column of Tables 4.174 and 4.176: the entries for bs_pointer 0, 1 and above
 abbrev pub by_pointer : {A : Type 0} → ℕ → A → A → A → A
@@ -115,12 +114,8 @@ abbrev pub accepts : ℕ → Grid → Bool
 accepts n g = counts_fit g && borders_fit g && rises (t_e_of n g) (num_env_of g) && noise_fits g
 
 unfoldable pub time_grid : ℕ → Grid → Outcome Times
-time_grid n g = unless (is_slot_count n) SlotCount (unless (accepts n g) TimeGrid (answered (times n g)))
+time_grid n g = unless (is_slot_count n) SlotCount (unless (accepts n g) TimeGrid (Ok (times n g)))
 
 -- the last border of every answered time grid is at most 3 slots past the frame: proved in proofs/Ends.antt
 abbrev pub EndsNear : Type 0
-EndsNear = (n : ℕ) (g : Grid) (t : Times) → time_grid n g ≡ answered t → get_or t.t_e (num_env_of g) 0 ≤ n + 3
-
--- what a program hands out for it
-abbrev pub derived_of : Outcome Times → Derived
-derived_of o = record { answer = answer_of o; time = value_or time_record empty_time o }
+EndsNear = (n : ℕ) (g : Grid) (t : Times) → time_grid n g ≡ Ok t → get_or t.t_e (num_env_of g) 0 ≤ n + 3

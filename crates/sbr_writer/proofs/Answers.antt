@@ -1,4 +1,6 @@
--- The ways that `write_grid` answers.
+-- What `write_grid` answers.
+use Rattle.std.specs.Prelude.{Ok, Err, Option, Some, None}
+use Rattle.std.specs.Option.{ok_or}
 use mathlib.Core.Path.{◌≡◌, refl}
 use mathlib.Core.Bool.{Bool, true, false, cond}
 use mathlib.Core.List.{List}
@@ -9,40 +11,31 @@ use borrow.Author.Tests.{le-leb}
 use lib.ListN.{length}
 use Rattle.bits.specs.Bits.{put_bits}
 use Rattle.bits.specs.Room.{room_for, placed, after_field}
-use Rattle.bits.specs.declared.Placed.{Placed}
-use Rattle.bits.specs.declared.Placed.TheVariants.{To as PlacedTo, NoRoom}
 use Rattle.bits.specs.declared.Window.{Window}
 use Rattle.bits.proofs.Numbers.{bits_num}
 use Rattle.sbr_grid.specs.declared.Refusal.TheVariants.{Room, Record}
-use Rattle.sbr_grid.specs.Refusals.{Outcome, answered, refused}
+use Rattle.sbr_grid.specs.Refusals.{Outcome, result_map}
 use Rattle.sbr_grid.specs.Grid.{Grid}
 use Rattle.sbr_writer.specs.Syntax.{grid_bits}
-use Rattle.sbr_writer.specs.Write.{Wrote, writable, write_grid, written_of, bytes_after}
+use Rattle.sbr_writer.specs.Write.{Wrote, writable, write_grid, bytes_after}
 use Rattle.sbr_writer.specs.Code.{window_for}
-use Rattle.sbr_writer.specs.declared.Written.{Written}
-use Rattle.sbr_writer.specs.declared.Written.TheVariants.{To, Refused}
 use Rattle.sbr_writer.proofs.Writable.{length_grid}
 
 -- what the call has to show of its answer r and of the bytes m that it leaves
-abbrev pub Writes : List ℕ → ℕ → Grid → Written → List ℕ → Type 0
-Writes l p g r m = (r ≡ written_of (write_grid l p g)) × (m ≡ bytes_after l (write_grid l p g))
+abbrev pub Writes : List ℕ → ℕ → Grid → Outcome ℕ → List ℕ → Type 0
+Writes l p g r m = (r ≡ result_map (λ w. w.position) (write_grid l p g)) × (m ≡ bytes_after l (write_grid l p g))
 
-pub unwritable : (l : List ℕ) (p : ℕ) (g : Grid) → writable g ≡ false → Writes l p g (Refused Record) l
+pub unwritable : (l : List ℕ) (p : ℕ) (g : Grid) → writable g ≡ false → Writes l p g (Err Record) l
 unfolding write_grid
 unwritable l p g e = rw e (refl, refl)
 
--- the answer for each answer of the field that was put
-abbrev pub answer : Placed → Written
-answer (PlacedTo q) = To q
-answer NoRoom = Refused Room
-
-room : (t : Bool) (l m : List ℕ) (n : ℕ) → let o : Outcome Wrote = cond t (answered (record { bytes = m; position = n })) (refused Room) in
-    (answer (cond t (PlacedTo n) NoRoom) ≡ written_of o) × (cond t m l ≡ bytes_after l o)
+room : (t : Bool) (l m : List ℕ) (n : ℕ) → let o : Outcome Wrote = cond t (Ok (record { bytes = m; position = n })) (Err Room) in
+    (ok_or (cond t (Some n) None) Room ≡ result_map (λ w. w.position) o) × (cond t m l ≡ bytes_after l o)
 room true l m n = (refl, refl)
 room false l m n = (refl, refl)
 
-pub put : (l : List ℕ) (p : ℕ) (g : Grid) (w : Window) (q : Placed) (m : List ℕ) → writable g ≡ true → w ≡ window_for (grid_bits g)
-    → q ≡ placed l p w.width → m ≡ after_field l p w.width w.value → Writes l p g (answer q) m
+pub put : (l : List ℕ) (p : ℕ) (g : Grid) (w : Window) (q : Option ℕ) (m : List ℕ) → writable g ≡ true → w ≡ window_for (grid_bits g)
+    → q ≡ placed l p w.width → m ≡ after_field l p w.width w.value → Writes l p g (ok_or q Room) m
 unfolding write_grid
 put l p g w q m e f a b =
     rw (e, a, b, f, zero-add (length (grid_bits g)), bits_num (grid_bits g), le-leb (length (grid_bits g)) 32 (omega (arith, length_grid g e)))

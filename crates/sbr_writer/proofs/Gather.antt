@@ -1,25 +1,27 @@
--- Bits gathered into one number: one field after another, and a loop over lengths or flags.
-use mathlib.Core.Path.{◌≡◌, refl, sym, ap, ◌∙◌}
+-- Bits gathered into one number: one field after another, and lists of lengths or flags.
+use mathlib.Core.Path.{◌≡◌, refl, sym, ◌∙◌}
 use mathlib.Core.Bool.{Bool, true, false}
-use mathlib.Core.List.{List, [], ◌∷◌, ◌++◌, reverse, reverse-append, append_assoc}
-use Prim.Native.Nat.{ℕ, zero, suc, ◌+◌, ◌-◌, ◌*◌, ◌%◌, ◌^◌, ◌<◌, ◌≤◌}
-use native.Mathlib.Decide.{dec_le}
+use mathlib.Core.List.{List, [], ◌∷◌, ◌++◌}
+use Prim.Native.Nat.{ℕ, ◌+◌, ◌*◌, ◌%◌, ◌^◌, ◌<◌, ◌≤◌}
 use native.Mathlib.Omega.{arith}
-use borrow.Author.Tests.{le-leb, lt-leb}
+use borrow.Author.Tests.{le-leb, lt-leb, leb-true}
+use lib.Arith.{digits_lt}
+use lib.Dec.{leb}
 use native.Mathlib.Nat.{add_assoc, suc-mul, mod-eq_of_lt, lt_of_lt_of_le, mul-le-mul_right}
-use native.Mathlib.Numerals.{sub-one}
 use lib.Pow.{shl_exact, pow_mono, pow-add}
-use lib.ListN.{length, get_or, take, drop, length-append}
-use lib.Seq.{take-suc}
-use Rattle.bits.specs.Bits.{bit_n, bit_at, bits_of, num_from}
+use lib.ListN.{length, length-append}
+use Rattle.std.specs.List.{fold}
+use Rattle.std.specs.Int.Bits.{bit_or}
+use Rattle.std.proofs.lemmas.Nat.{or_shifted}
+use Rattle.std.proofs.lemmas.Bool.{and_parts}
+use Rattle.bits.specs.Bits.{bit_n, bit_at, bits_of, num_from, num_of}
 use Rattle.bits.specs.declared.Window.{Window}
-use Rattle.bits.proofs.Numbers.{num_from_lem, num_after, num_append, num_lt, length-bits_of}
-use Rattle.sbr_grid.specs.Grid.{class_code, first, ptr_bits, table_width, Grid}
-use Rattle.sbr_grid.specs.declared.FrameClass.{FrameClass}
-use Rattle.sbr_grid.proofs.First.{first-drop, first-length, first-get_or}
+use Rattle.bits.proofs.Numbers.{num_from_lem, num_after, num_append, num_lt, length-bits_of, bits_num, bit_lt}
+use Rattle.sbr_grid.specs.Grid.{table_width}
 use Rattle.sbr_grid.proofs.Widths.{pointer_width, width_ptr}
-use Rattle.sbr_writer.specs.Syntax.{env_code, twos, body_bits, grid_bits}
-use Rattle.sbr_writer.specs.Code.{appended, Behind, window_for, Space, side_bits}
+use Rattle.sbr_writer.specs.Syntax.{env_code, twos}
+use Rattle.sbr_writer.specs.Write.{every, small}
+use Rattle.sbr_writer.specs.Code.{appended, Behind, Space, joined_twos, joined_flags}
 
 -- n digits more make a number below 2 ^ n times larger
 num_from-lt : (a m : ℕ) (bs : List Bool) → a < 2 ^ m → num_from a bs < 2 ^ (m + length bs)
@@ -57,32 +59,67 @@ shifted_fits w n x s h =
     rw (shifted w n x s h)
     (lt_of_lt_of_le (num_from-lt w.value w.width (bits_of n x) s.small) (pow_mono {j = 32} (omega (arith, s.room, length-bits_of n x))))
 
-pub rel_next : (w : Window) (rel : List ℕ) (n i : ℕ) → i < n
-    → appended w (twos (drop i (first 0 n rel))) ≡ appended (appended w (bits_of 2 (get_or rel i 0))) (twos (drop (i + 1) (first 0 n rel)))
-unfolding twos
-rel_next w rel n i h = rw (first-drop 0 n i rel h) (appended-append w (bits_of 2 (get_or rel i 0)) (twos (drop (i + 1) (first 0 n rel))))
-
 pub one_bit : (b : Bool) → bits_of 1 (bit_n b) ≡ b ∷ []
 unfolding bits_of bit_at
 one_bit true = refl
 one_bit false = refl
 
-pub flags-next : (w : Window) (fl : List Bool) (n i : ℕ) → i < n
-    → appended w (drop i (first false n fl)) ≡ appended (appended w (get_or fl i false ∷ [])) (drop (i + 1) (first false n fl))
-flags-next w fl n i h = rw (first-drop false n i fl h) (appended-append w (get_or fl i false ∷ []) (drop (i + 1) (first false n fl)))
+-- ---- numbers of a list
 
--- from the last flag back
-pub back_next : (w : Window) (fl : List Bool) (n left : ℕ) → 0 < left → left ≤ n
-    → appended w (reverse (take left (first false n fl)))
-    ≡ appended (appended w (get_or fl (left - 1) false ∷ [])) (reverse (take (left - 1) (first false n fl)))
-back_next w fl n zero h k = absurd (omega arith)
-back_next w fl n (suc j) h k =
-    rw (sub-one, take-suc (first false n fl) j false (rw (first-length false n fl) k), first-get_or false n j fl k, reverse-append)
-    (appended-append w (get_or fl j false ∷ []) (reverse (take j (first false n fl))))
+pub length-twos : (xs : List ℕ) → length (twos xs) ≡ 2 * length xs
+unfolding twos
+length-twos [] = refl
+length-twos (x ∷ xs) = simp length-append (omega (arith, length-twos xs, length-bits_of 2 x))
 
-pub appended_none : (w : Window) → appended w [] ≡ w
+-- digits that follow a number in the bits above them
+shifted_in : (v k n r : ℕ) → v < 2 ^ k → k + n ≤ 32 → r < 2 ^ n → bit_or (v * 2 ^ n % 2 ^ 32) r ≡ v * 2 ^ n + r
+shifted_in v k n r h l s = rw (shl_exact k n 32 h l) (or_shifted v n r s)
+
+digit-lt : (v k n r : ℕ) → v < 2 ^ k → r < 2 ^ n → v * 2 ^ n + r < 2 ^ (k + n)
+digit-lt v k n r h s = rw (pow-add 2 k n) (digits_lt h s)
+
+folded_flags : (v k : ℕ) (fl : List Bool) → v < 2 ^ k → k + length fl ≤ 32 → fold (λ v f. bit_or (v * 2 % 2 ^ 32) (bit_n f)) v fl ≡ num_from v fl
 unfolding num_from
-appended_none w = rw (native.Mathlib.Nat.add-zero)
+folded_flags v k [] h l = refl
+folded_flags v k (b ∷ fl) h l =
+    rw (shifted_in v k 1 (bit_n b) h (omega arith) (bit_lt b))
+    (folded_flags (v * 2 + bit_n b) (k + 1) fl (digit-lt v k 1 (bit_n b) h (bit_lt b)) (omega arith))
+
+folded_twos : (v k : ℕ) (xs : List ℕ) → small xs ≡ true → v < 2 ^ k → k + 2 * length xs ≤ 32
+    → fold (λ v r. bit_or (v * 4 % 2 ^ 32) r) v xs ≡ num_from v (twos xs)
+unfolding num_from twos every
+folded_twos v k [] e h l = refl
+folded_twos v k (x ∷ xs) e h l =
+    let s : x < 2 ^ 2 = omega (arith, leb-true x 3 (and_parts (leb x 3) (small xs) e).0) in
+    rw (shifted_in v k 2 x h (omega arith) s, num_append v (bits_of 2 x) (twos xs), num_from_lem v 2 x, mod-eq_of_lt s)
+    (folded_twos (v * 4 + x) (k + 2) xs (and_parts (leb x 3) (small xs) e).1 (digit-lt v k 2 x h s) (omega arith))
+
+-- the number x has n bits, and they are bs
+pub record Packed (x n : ℕ) (bs : List Bool) : Type 0 where
+  pub fits : x < 2 ^ n
+  pub bits : bits_of n x ≡ bs
+
+packed : (x : ℕ) (bs : List Bool) → x ≡ num_of bs → Packed x (length bs) bs
+packed x bs e = record { fits = rw e (num_lt bs); bits = rw e (bits_num bs) }
+
+pub packed_flags : (fl : List Bool) (n : ℕ) → length fl ≡ n → n ≤ 31 → Packed (joined_flags fl) n fl
+packed_flags fl n e h = rw e at (packed (joined_flags fl) fl (folded_flags 0 0 fl (omega arith) (omega arith)))
+
+pub packed_twos : (xs : List ℕ) → small xs ≡ true → 2 * length xs ≤ 31 → Packed (joined_twos xs) (2 * length xs) (twos xs)
+packed_twos xs e h = rw (length-twos xs) at (packed (joined_twos xs) (twos xs) (folded_twos 0 0 xs e (omega arith) (omega arith)))
+
+-- a field of those bits
+pub behind : {w r : Window} {x n : ℕ} {bs : List Bool} → Packed x n bs → Behind w (bits_of n x) r → Behind w bs r
+behind p b = rw p.bits at b
+
+-- two numbers, and four, that fit two bits
+pub two_small : (a b : ℕ) → a ≤ 3 → b ≤ 3 → small (a ∷ b ∷ []) ≡ true
+unfolding every
+two_small a b h k = rw (le-leb a 3 h, le-leb b 3 k)
+
+pub four_small : (a b c d : ℕ) → a ≤ 3 → b ≤ 3 → c ≤ 3 → d ≤ 3 → small (a ∷ b ∷ c ∷ d ∷ []) ≡ true
+unfolding every
+four_small a b c d h j k l = rw (le-leb a 3 h, le-leb b 3 j, le-leb c 3 k, le-leb d 3 l)
 
 pub env_code_low : (n : ℕ) → n ≤ 1 → 0 ≡ env_code n
 env_code_low n h = rw (le-leb n 1 h)
@@ -93,44 +130,9 @@ env_code_two n h k = rw (lt-leb n 1 h, le-leb n 2 k)
 pub env_code_more : (n : ℕ) → 2 < n → 2 ≡ env_code n
 env_code_more n h = rw (lt-leb n 1 (omega arith), lt-leb n 2 h)
 
-pub env_code-lt : (n : ℕ) → env_code n < 4
-env_code-lt n = go (dec_le n 1) (dec_le n 2)
-  where
-    go : Dec (n ≤ 1) → Dec (n ≤ 2) → env_code n < 4
-    go (yes h) d = rw (← env_code_low n h) (omega arith)
-    go (no h) (yes k) = rw (← env_code_two n (omega arith) k) (omega arith)
-    go (no h) (no k) = rw (← env_code_more n (omega arith)) (omega arith)
-
 -- a pointer up to the envelope count fits its width, which is at most 3
 pub pointer_fits : (n p w : ℕ) → 0 < n → n ≤ 5 → p ≤ n → w ≡ table_width n → p < 2 ^ w
 pointer_fits n p w h k l e = rw (e, width_ptr n h k) (omega (arith, (pointer_width n).holds))
 
 pub pointer_narrow : (n w : ℕ) → 0 < n → n ≤ 5 → w ≡ table_width n → w ≤ 3
 pointer_narrow n w h k e = rw (e, width_ptr n h k) ((pointer_width n).least 3 (omega arith))
-
-pub length-twos : (xs : List ℕ) → length (twos xs) ≡ 2 * length xs
-unfolding twos
-length-twos [] = refl
-length-twos (x ∷ xs) = simp length-append (omega (arith, length-twos xs, length-bits_of 2 x))
-
--- what FixVar and VarFix send, with their flags
-pub side_flags : (b : ℕ) (rel : List ℕ) (p n : ℕ) (fl : List Bool) → length rel + 1 ≡ n
-    → side_bits b rel p ++ fl ≡ bits_of 2 b ++ (bits_of 2 (length rel) ++ (twos rel ++ (bits_of (ptr_bits n) p ++ fl)))
-side_flags b rel p n fl e = rw e (simp append_assoc)
-
--- at most 4 envelopes send at most 13 bits before their flags
-pub length_side : (b : ℕ) (rel : List ℕ) (p n : ℕ) → length rel + 1 ≡ n → n ≤ 4 → length (side_bits b rel p) ≤ 13
-length_side b rel p n e h =
-    simp (length-append, length-bits_of, length-twos) (omega (arith, (pointer_width (length rel + 1)).least 3 (omega arith)))
-
--- what VarVar sends, put together
-pub var-var_bits : (b0 b1 : ℕ) (rel0 rel1 : List ℕ) (m n : ℕ) (ptr fl : List Bool) → m ≡ length rel0 → n ≡ length rel1
-    → (bits_of 2 b0 ++ (bits_of 2 b1 ++ (bits_of 2 m ++ bits_of 2 n))) ++ (twos rel0 ++ (twos rel1 ++ (ptr ++ fl)))
-    ≡ bits_of 2 b0 ++ (bits_of 2 b1 ++ (bits_of 2 (length rel0) ++ (bits_of 2 (length rel1) ++ (twos rel0 ++ (twos rel1 ++ (ptr ++ fl))))))
-var-var_bits b0 b1 rel0 rel1 m n ptr fl e f = rw (e, f) (simp append_assoc)
-
--- class and body make the whole
-pub whole : (g : Grid) (k : FrameClass) (code : ℕ) (w r : Window) → code ≡ class_code g.frame_class → g.frame_class ≡ k
-    → Behind (record { value = 0; width = 0 }) (bits_of 2 code) w → Behind w (body_bits k g) r → r ≡ window_for (grid_bits g)
-unfolding grid_bits
-whole g k code w r e f a b = (chain a b).is ∙ ap window_for (rw (← e) (ap (λ t. bits_of 2 code ++ body_bits t g) (sym f)))

@@ -1,4 +1,5 @@
 pub mod Gather
 pub mod Writable
+pub mod Body
 pub mod Answers
 pub mod Puts

@@ -1,4 +1,5 @@
 -- What a write that answers leaves.
+use Rattle.std.specs.Prelude.{Ok, Err}
 use mathlib.Core.Path.{◌≡◌, sym, ap}
 use mathlib.Core.Bool.{true}
 use mathlib.Core.List.{List, []}
@@ -10,11 +11,11 @@ use Rattle.bits.specs.Room.{room_for}
 use Rattle.bits.proofs.Numbers.{length-bits_of}
 use Rattle.bits.proofs.Room.{room}
 use Rattle.bits.proofs.After.{put_leaves}
-use Rattle.sbr_grid.specs.Refusals.{answered, value_or}
+use Rattle.sbr_grid.specs.Refusals.{Outcome}
 use Rattle.sbr_grid.specs.Grid.{Grid}
 use Rattle.sbr_grid.proofs.Outcomes.{unless_answered}
 use Rattle.sbr_writer.specs.Syntax.{grid_bits}
-use Rattle.sbr_writer.specs.Write.{Wrote, writable, write_grid, EveryWrite}
+use Rattle.sbr_writer.specs.Write.{Wrote, writable, write_grid, bytes_after, EveryWrite}
 
 -- what a write that answers has put
 pub record Put (l : List ℕ) (p : ℕ) (g : Grid) (w : Wrote) : Type 0 where
@@ -23,7 +24,12 @@ pub record Put (l : List ℕ) (p : ℕ) (g : Grid) (w : Wrote) : Type 0 where
   pub bytes : w.bytes ≡ put_bits l p (grid_bits g)
   pub position : w.position ≡ p + length (grid_bits g)
 
-pub puts : (bytes : List ℕ) (p : ℕ) (g : Grid) (w : Wrote) → write_grid bytes p g ≡ answered w → Put bytes p g w
+-- the position of a write that answers
+abbrev place : Outcome Wrote → ℕ
+place (Ok w) = w.position
+place (Err e) = 0
+
+pub puts : (bytes : List ℕ) (p : ℕ) (g : Grid) (w : Wrote) → write_grid bytes p g ≡ Ok w → Put bytes p g w
 unfolding write_grid
 puts bytes p g w e =
     let f = unless_answered (writable g) _ _ e in
@@ -31,8 +37,8 @@ puts bytes p g w e =
     record {
       fits = f.0;
       room = r.0;
-      bytes = ap (value_or (λ (u : Wrote). u.bytes) []) (sym r.1);
-      position = ap (value_or (λ (u : Wrote). u.position) 0) (sym r.1);
+      bytes = ap (bytes_after []) (sym r.1);
+      position = ap place (sym r.1);
     }
 
 -- every record has bits

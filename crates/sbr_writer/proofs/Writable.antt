@@ -1,22 +1,23 @@
 -- What the tests of `writable` say, and the loops that make them.
-use mathlib.Core.Path.{◌≡◌, refl}
+use mathlib.Core.Path.{◌≡◌, refl, ◌∙◌}
+use Rattle.std.proofs.Math.Bool.{and_assoc}
 use mathlib.Core.Bool.{Bool, true, false, ◌&&◌, ◌||◌}
 use mathlib.Core.List.{List, [], ◌∷◌}
-use Prim.Native.Nat.{ℕ, zero, suc, ◌+◌, ◌≤◌, ◌<◌}
+use Prim.Native.Nat.{ℕ, zero, suc, ◌+◌, ◌≤◌}
 use native.Mathlib.Omega.{arith}
 use borrow.Author.Tests.{leb-true, eqb-true, le-leb}
 use lib.Dec.{leb, eqb}
-use lib.ListN.{length, get_or, drop, length-append, length-reverse}
+use lib.ListN.{length, get_or, length-append, length-reverse}
 use Rattle.sbr_grid.specs.declared.FrameClass.{FrameClass}
 use Rattle.sbr_grid.specs.declared.FrameClass.TheVariants.{FixFix, FixVar, VarFix, VarVar}
 use Rattle.sbr_grid.specs.declared.SbrGrid.{SbrGrid}
 use Rattle.sbr_grid.specs.Grid.{first, view_of, record_of, num_env_of, Grid}
-use Rattle.sbr_grid.proofs.First.{first-drop, first-drop_past, first-length, first-get_or}
+use Rattle.sbr_grid.proofs.First.{first-length, first-get_or}
 use Rattle.sbr_grid.proofs.Laws.{lengths, view_record}
 use Rattle.bits.proofs.Numbers.{length-bits_of}
 use Rattle.sbr_grid.proofs.Widths.{pointer_width}
 use Rattle.sbr_writer.specs.Syntax.{body_bits, grid_bits}
-use Rattle.sbr_writer.specs.Write.{every, small, all_are, class_fits, fields_fit_of, writable}
+use Rattle.sbr_writer.specs.Write.{every, small, all_are, class_fits, numbers_fit, lists_fit, fields_fit_of, writable}
 use Rattle.sbr_writer.proofs.Gather.{length-twos}
 
 -- both sides of a test that passed
@@ -27,21 +28,6 @@ both false b e = (e, cc)
 pub and-false : (a : Bool) → (a && false) ≡ false
 and-false true = refl
 and-false false = refl
-
--- one turn of a test of every element
-pub every-next : {A : Type 0} (f : A → Bool) (d : A) (n i : ℕ) (xs : List A) → i < n → f (get_or xs i d) ≡ true
-    → every f (drop i (first d n xs)) ≡ every f (drop (i + 1) (first d n xs))
-unfolding every
-every-next f d n i xs h e = rw (first-drop d n i xs h, e)
-
-pub every_fails : {A : Type 0} (f : A → Bool) (d : A) (n i : ℕ) (xs : List A) → i < n → f (get_or xs i d) ≡ false
-    → every f (drop i (first d n xs)) ≡ false
-unfolding every
-every_fails f d n i xs h e = rw (first-drop d n i xs h, e)
-
-pub every_done : {A : Type 0} (f : A → Bool) (d : A) (n i : ℕ) (xs : List A) → n ≤ i → every f (drop i (first d n xs)) ≡ true
-unfolding every
-every_done f d n i xs h = rw (first-drop_past d n i xs h)
 
 pub small_at : (xs : List ℕ) (i : ℕ) → small xs ≡ true → get_or xs i 0 ≤ 3
 unfolding every
@@ -118,6 +104,14 @@ fields_view g =
       first-length 0 g.num_rel_1 g.rel_bord_1,
     )
 
+-- they are those of its numbers, then those of its lists
+pub fields_parts : (g : SbrGrid) → fields_fit_of (view_of g) ≡ (numbers_fit g && lists_fit g)
+fields_parts g =
+    let a = small (first 0 g.num_rel_0 g.rel_bord_0) in
+    let b = small (first 0 g.num_rel_1 g.rel_bord_1) in
+    fields_view g
+    ∙ rw (and_assoc (numbers_fit g) a b) (and_assoc (numbers_fit g) (a && b) (leb g.pointer g.num_env))
+
 -- what the tests of the record's numbers say
 pub record Numbers (g : SbrGrid) : Type 0 where
   pub some : 1 ≤ g.num_env
@@ -126,21 +120,6 @@ pub record Numbers (g : SbrGrid) : Type 0 where
   pub bord_1 : g.var_bord_1 ≤ 3
   pub rel0 : g.num_rel_0 ≤ 4
   pub rel1 : g.num_rel_1 ≤ 4
-
-pub fields_pass : (g : SbrGrid) → Numbers g → small (first 0 g.num_rel_0 g.rel_bord_0) ≡ true
-    → small (first 0 g.num_rel_1 g.rel_bord_1) ≡ true → leb g.pointer g.num_env ≡ fields_fit_of (view_of g)
-fields_pass g n a b =
-    rw (
-      fields_view g,
-      le-leb 1 _ n.some,
-      le-leb _ 5 n.most,
-      le-leb g.var_bord_0 3 n.bord_0,
-      le-leb g.var_bord_1 3 n.bord_1,
-      le-leb g.num_rel_0 4 n.rel0,
-      le-leb g.num_rel_1 4 n.rel1,
-      a,
-      b,
-    )
 
 -- the same with the lists, from the tests of the view
 pub record Told (g : SbrGrid) : Type 0 where
@@ -168,12 +147,12 @@ told g e =
     }
 
 -- the counts that each class can send, in the record's own numbers
-pub fix-fix_view : (g : SbrGrid) → class_fits FixFix (view_of g) ≡ (
+pub fixfix_view : (g : SbrGrid) → class_fits FixFix (view_of g) ≡ (
     (eqb g.num_env 1 || eqb g.num_env 2 || eqb g.num_env 4)
     && all_are (get_or (first false g.num_env g.freq_res) 0 false) (first false g.num_env g.freq_res)
     )
 unfolding class_fits
-fix-fix_view g = rw (first-length false g.num_env g.freq_res)
+fixfix_view g = rw (first-length false g.num_env g.freq_res)
 
 pub fix-var_view : (g : SbrGrid) → class_fits FixVar (view_of g) ≡ (eqb (g.num_rel_1 + 1) g.num_env && leb g.num_env 4)
 unfolding class_fits

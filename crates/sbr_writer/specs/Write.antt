@@ -1,21 +1,20 @@
 -- What writing a record comes to: docs/ORDER.md, WR-15 to WR-35, with the conditions of `write_grid` of src/sbr_writer.rs.
-use Rattle.std.specs.Prelude.{◌≡◌, Bool, true, false, cond, not, ◌&&◌, ◌||◌, List, [], ◌∷◌, ℕ, ◌+◌, leb, eqb, length, get_or}
+use Rattle.std.specs.Prelude.{◌≡◌, Bool, false, cond, not, ◌&&◌, ◌||◌, List, ℕ, ◌+◌, leb, eqb, length, get_or, Ok, Err}
+use Rattle.std.specs.List.{list_all}
 use Rattle.bits.specs.Bits.{put_bits}
 use Rattle.bits.specs.Room.{room_for}
 use Rattle.bits.specs.Put.{BitsPut}
 use Rattle.sbr_grid.specs.declared.FrameClass.{FrameClass}
 use Rattle.sbr_grid.specs.declared.FrameClass.TheVariants.{FixFix, FixVar, VarFix, VarVar}
 use Rattle.sbr_grid.specs.declared.Refusal.TheVariants.{Room, Record}
-use Rattle.sbr_grid.specs.Refusals.{Outcome, answered, refused, value_or, unless}
-use Rattle.sbr_grid.specs.Grid.{Grid, num_env_of}
+use Rattle.sbr_grid.specs.Refusals.{Outcome, unless}
+use Rattle.sbr_grid.specs.declared.SbrGrid.{SbrGrid}
+use Rattle.sbr_grid.specs.Grid.{Grid, num_env_of, first}
 use Rattle.sbr_writer.specs.Syntax.{grid_bits}
-use Rattle.sbr_writer.specs.declared.Written.{Written}
-use Rattle.sbr_writer.specs.declared.Written.TheVariants.{To, Refused}
 
 -- every element passes a test
 unfoldable pub every : {A : Type 0} → (A → Bool) → List A → Bool
-every f [] = true
-every f (x ∷ xs) = f x && every f xs
+every f xs = list_all f xs
 
 -- every stored length fits two bits
 abbrev pub small : List ℕ → Bool
@@ -44,6 +43,14 @@ fields_fit_of g =
     leb 1 (num_env_of g) && leb (num_env_of g) 5 && leb g.var_bord_0 3 && leb g.var_bord_1 3 && leb (length g.rel_bord_0) 4
     && leb (length g.rel_bord_1) 4 && small g.rel_bord_0 && small g.rel_bord_1 && leb g.pointer (num_env_of g)
 
+-- the same of a record: its numbers, and its lists and pointer
+abbrev pub numbers_fit : SbrGrid → Bool
+numbers_fit g =
+    leb 1 g.num_env && leb g.num_env 5 && leb g.var_bord_0 3 && leb g.var_bord_1 3 && leb g.num_rel_0 4 && leb g.num_rel_1 4
+
+abbrev pub lists_fit : SbrGrid → Bool
+lists_fit g = small (first 0 g.num_rel_0 g.rel_bord_0) && small (first 0 g.num_rel_1 g.rel_bord_1) && leb g.pointer g.num_env
+
 abbrev pub writable : Grid → Bool
 writable g = fields_fit_of g && class_fits g.frame_class g
 
@@ -56,21 +63,17 @@ unfoldable pub write_grid : List ℕ → ℕ → Grid → Outcome Wrote
 write_grid l p g =
     let n = length (grid_bits g) in
     unless (writable g) Record
-    (unless (room_for (length l) p n) Room (answered (record { bytes = put_bits l p (grid_bits g); position = p + n })))
-
--- the enum that a program hands out for it
-abbrev pub written_of : Outcome Wrote → Written
-written_of (answered w) = To w.position
-written_of (refused e) = Refused e
+    (unless (room_for (length l) p n) Room (Ok (record { bytes = put_bits l p (grid_bits g); position = p + n })))
 
 -- the bytes after, as they were where the call is refused
 abbrev pub bytes_after : List ℕ → Outcome Wrote → List ℕ
-bytes_after l o = value_or (λ w. w.bytes) l o
+bytes_after l (Ok w) = w.bytes
+bytes_after l (Err e) = l
 
 -- ---- what a write leaves, bit by bit: the statement, proved in proofs/Puts.antt
 
 -- a grid leaves its bytes as its bits leave them, put at once, and the position after the last one
 abbrev pub EveryWrite : Type 0
 EveryWrite =
-    (l : List ℕ) (p : ℕ) (g : Grid) (w : Wrote) → write_grid l p g ≡ answered w
+    (l : List ℕ) (p : ℕ) (g : Grid) (w : Wrote) → write_grid l p g ≡ Ok w
     → BitsPut l w.bytes p (grid_bits g) × (w.position ≡ p + length (grid_bits g))

@@ -1,25 +1,26 @@
 -- `sbr_writer::write_grid` meets its contract.
-use mathlib.Core.Path.{◌≡◌, sym, ◌∙◌}
-use mathlib.Core.Bool.{true}
+use mathlib.Core.Path.{sym, ◌∙◌}
 use Rattle.sbr_grid.specs.Grid.{view_of}
-use Rattle.sbr_writer.specs.Write.{writable}
-use Rattle.sbr_writer.proofs.Answers.{Writes, answer, unwritable, put}
+use Rattle.sbr_writer.proofs.Answers.{unwritable, put}
 use Rattle.sbr_writer.proofs.write_grid.Goals as goal
 
-pub returns-then-not-writable : goal.returns-then-not-writable
-returns-then-not-writable c =
+pub returns-then-not-writable-clause-answer : goal.returns-then-not-writable-clause-answer
+returns-then-not-writable-clause-answer c =
+    (let a = c.args in unwritable a.buf.now a.pos (view_of a.grid) (sym c.writable.ensures ∙ c.if-not-writable.true)).0
+
+pub returns-then-not-writable-clause-bytes : goal.returns-then-not-writable-clause-bytes
+returns-then-not-writable-clause-bytes c =
+    (let a = c.args in unwritable a.buf.now a.pos (view_of a.grid) (sym c.writable.ensures ∙ c.if-not-writable.true)).1
+
+pub returns-clause-answer : goal.returns-clause-answer
+returns-clause-answer c =
     let a = c.args in
-    unwritable a.buf.now a.pos (view_of a.grid) (sym c.writable.ensures ∙ c.if-not-writable.true)
+    c.ok_or.ensures.value
+    ∙ (put a.buf.now a.pos (view_of a.grid) c.grid_bits-bits.result c.put_bits.result c.put_bits.new.buf (sym c.writable.ensures ∙ c.if-not-writable.false)
+    c.grid_bits-bits.ensures c.put_bits.ensures.answer c.put_bits.ensures.bytes).0
 
-pub returns-in-To : goal.returns-in-To
-returns-in-To c =
-    -- past the test the record can be written
-    let passes : writable (view_of c.args.grid) ≡ true = sym c.writable.ensures ∙ c.if-not-writable.false in
-    let told : let a = c.args in Writes a.buf.now a.pos (view_of a.grid) (answer c.put_bits.result) c.put_bits.new.buf = (let a = c.args in put a.buf.now a.pos (view_of a.grid) c.grid_bits-bits.result c.put_bits.result c.put_bits.new.buf passes c.grid_bits-bits.ensures c.put_bits.ensures.answer c.put_bits.ensures.bytes) in
-    rw c.in-To.is at told
-
-pub returns-in-NoRoom : goal.returns-in-NoRoom
-returns-in-NoRoom c =
-    let passes : writable (view_of c.args.grid) ≡ true = sym c.writable.ensures ∙ c.if-not-writable.false in
-    let told : let a = c.args in Writes a.buf.now a.pos (view_of a.grid) (answer c.put_bits.result) c.put_bits.new.buf = (let a = c.args in put a.buf.now a.pos (view_of a.grid) c.grid_bits-bits.result c.put_bits.result c.put_bits.new.buf passes c.grid_bits-bits.ensures c.put_bits.ensures.answer c.put_bits.ensures.bytes) in
-    rw c.in-NoRoom.is at told
+pub returns-clause-bytes : goal.returns-clause-bytes
+returns-clause-bytes c =
+    let a = c.args in
+    (put a.buf.now a.pos (view_of a.grid) c.grid_bits-bits.result c.put_bits.result c.put_bits.new.buf (sym c.writable.ensures ∙ c.if-not-writable.false)
+    c.grid_bits-bits.ensures c.put_bits.ensures.answer c.put_bits.ensures.bytes).1

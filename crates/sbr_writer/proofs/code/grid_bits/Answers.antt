@@ -1,53 +1,29 @@
 -- `sbr_writer::code::grid_bits` meets its contract.
-use mathlib.Core.Path.{◌≡◌, sym, ap, ◌∙◌}
-use mathlib.Core.Bool.{true}
 use Rattle.sbr_grid.specs.Grid.{view_of}
-use Rattle.sbr_writer.specs.Write.{fields_fit_of, class_fits}
+use Rattle.sbr_grid.proofs.Laws.{lengths}
 use Rattle.sbr_writer.specs.Code.{Space}
 use Rattle.sbr_writer.proofs.Writable.{both, told}
-use Rattle.sbr_writer.proofs.Gather.{narrow, space_field, whole}
+use Rattle.sbr_writer.proofs.Gather.{space_field, space_then}
+use Rattle.sbr_writer.proofs.Body.{length_counts, whole}
 use native.Mathlib.Omega.{arith}
 use Rattle.sbr_writer.proofs.code.grid_bits.Goals as goal
 
-pub fix_fix-requires : goal.fix_fix-requires
-fix_fix-requires c =
-    let tests : let g = c.args.g in (fields_fit_of (view_of g) ≡ true) × (class_fits g.frame_class (view_of g) ≡ true) = both _ _ c.requires in
-    let space : Space c.push-bits.result 29 = space_field {m = 31} 2 c.to_bits.result (record { room = omega arith; small = omega arith }) c.push-bits.ensures (omega arith) in
-    (narrow space (omega arith), omega (arith, (told c.args.g tests.0).numbers.some))
+pub push_counts-counts-requires-clause-space : goal.push_counts-counts-requires-clause-space
+push_counts-counts-requires-clause-space c =
+    space_field {m = 31} 2 c.from.result (record { room = omega arith; small = omega arith }) c.push-class.ensures (omega arith)
 
-pub fix_var-requires : goal.fix_var-requires
-fix_var-requires c =
-    let tests : let g = c.args.g in (fields_fit_of (view_of g) ≡ true) × (class_fits g.frame_class (view_of g) ≡ true) = both _ _ c.requires in
-    let space : Space c.push-bits.result 29 = space_field {m = 31} 2 c.to_bits.result (record { room = omega arith; small = omega arith }) c.push-bits.ensures (omega arith) in
-    let t = tests in
-    (narrow space (omega arith), t.0, ap (λ k. class_fits k (view_of c.args.g)) (sym c.in-FixVar.is) ∙ t.1)
+pub push_flags-requires-clause-space : goal.push_flags-requires-clause-space
+push_flags-requires-clause-space c =
+    let b = both _ _ c.requires in
+    let space : Space c.push-class.result 29 = space_field {m = 31} 2 c.from.result (record { room = omega arith; small = omega arith }) c.push-class.ensures (omega arith) in
+    space_then space c.push_counts-counts.ensures (omega (arith, length_counts c.args.g.frame_class (view_of c.args.g) b.0 b.1, (lengths c.args.g).env))
 
-pub var_fix-requires : goal.var_fix-requires
-var_fix-requires c =
-    let tests : let g = c.args.g in (fields_fit_of (view_of g) ≡ true) × (class_fits g.frame_class (view_of g) ≡ true) = both _ _ c.requires in
-    let space : Space c.push-bits.result 29 = space_field {m = 31} 2 c.to_bits.result (record { room = omega arith; small = omega arith }) c.push-bits.ensures (omega arith) in
-    let t = tests in
-    (narrow space (omega arith), t.0, ap (λ k. class_fits k (view_of c.args.g)) (sym c.in-VarFix.is) ∙ t.1)
+pub push_flags-requires-clause-some : goal.push_flags-requires-clause-some
+push_flags-requires-clause-some c = omega (arith, (told c.args.g (both _ _ c.requires).0).numbers.some)
 
-pub var_var-requires : goal.var_var-requires
-var_var-requires c =
-    let tests : let g = c.args.g in (fields_fit_of (view_of g) ≡ true) × (class_fits g.frame_class (view_of g) ≡ true) = both _ _ c.requires in
-    let space : Space c.push-bits.result 29 = space_field {m = 31} 2 c.to_bits.result (record { room = omega arith; small = omega arith }) c.push-bits.ensures (omega arith) in
-    let t = tests in
-    (narrow space (omega arith), t.0, ap (λ k. class_fits k (view_of c.args.g)) (sym c.in-VarVar.is) ∙ t.1)
+pub push_flags-requires-clause-few : goal.push_flags-requires-clause-few
+push_flags-requires-clause-few c = (told c.args.g (both _ _ c.requires).0).numbers.most
 
-pub returns-in-FixFix : goal.returns-in-FixFix
-returns-in-FixFix c =
-    whole (view_of c.args.g) _ _ _ _ c.to_bits.ensures c.in-FixFix.is c.push-bits.ensures c.fix_fix.ensures
-
-pub returns-in-FixVar : goal.returns-in-FixVar
-returns-in-FixVar c =
-    whole (view_of c.args.g) _ _ _ _ c.to_bits.ensures c.in-FixVar.is c.push-bits.ensures c.fix_var.ensures
-
-pub returns-in-VarFix : goal.returns-in-VarFix
-returns-in-VarFix c =
-    whole (view_of c.args.g) _ _ _ _ c.to_bits.ensures c.in-VarFix.is c.push-bits.ensures c.var_fix.ensures
-
-pub returns-in-VarVar : goal.returns-in-VarVar
-returns-in-VarVar c =
-    whole (view_of c.args.g) _ _ _ _ c.to_bits.ensures c.in-VarVar.is c.push-bits.ensures c.var_var.ensures
+pub returns : goal.returns
+returns c =
+    whole (view_of c.args.g) _ _ _ _ c.from.ensures (both _ _ c.requires).1 c.push-class.ensures c.push_counts-counts.ensures c.push_flags.ensures

@@ -1,41 +1,39 @@
 -- `sbr_writer::code::one_side` meets its contract.
 use mathlib.Core.Path.{◌∙◌}
+use mathlib.Core.List.{[], ◌∷◌}
 use Prim.Native.Nat.{◌+◌, ◌≤◌}
-use Rattle.sbr_grid.specs.Grid.{first}
-use Rattle.sbr_grid.proofs.First.{first-length}
+use lib.ListN.{length}
 use Rattle.sbr_grid.proofs.Widths.{width_ptr}
-use Rattle.sbr_writer.proofs.Gather.{length-twos, chain, space_then, space_field, narrow, pointer_fits, pointer_narrow}
+use Rattle.sbr_writer.proofs.Gather.{length-twos, two_small, chain, space_then, narrow, pointer_fits, pointer_narrow}
 use Rattle.sbr_writer.specs.Code.{Space}
 use native.Mathlib.Omega.{arith}
 use Rattle.sbr_writer.proofs.code.one_side.Goals as goal
 
-pub push-counted-requires : goal.push-counted-requires
-push-counted-requires c =
-    -- past the border byte there is room for the rest
-    let after1 : Space c.push-sent.result 11 = space_field 2 c.args.bord c.requires.0 c.push-sent.ensures (omega arith) in
-    (narrow after1 (omega arith), omega (arith, c.requires.2))
+pub push_twos-counted-requires-clause-space : goal.push_twos-counted-requires-clause-space
+push_twos-counted-requires-clause-space c = narrow c.requires.space (omega (arith, length-twos (c.args.bord ∷ length c.args.rel.now ∷ [])))
 
-pub push_rel-lengths-requires : goal.push_rel-lengths-requires
-push_rel-lengths-requires c =
-    let after1 : Space c.push-sent.result 11 = space_field 2 c.args.bord c.requires.0 c.push-sent.ensures (omega arith) in
-    let after2 : Space c.push-counted.result 9 = space_field 2 c.args.count after1 c.push-counted.ensures (omega arith) in
-    let p = c.requires in
-    (narrow after2 (omega (arith, p.2)), omega (arith, p.2), p.3)
+pub push_twos-counted-requires-clause-small : goal.push_twos-counted-requires-clause-small
+push_twos-counted-requires-clause-small c = two_small c.args.bord (length c.args.rel.now) c.requires.bord c.requires.few
+
+pub push_twos-lengths-requires : goal.push_twos-lengths-requires
+push_twos-lengths-requires c =
+    let rel = c.args.rel.now in
+    -- past the border byte and the count there is room for the rest
+    let space : Space c.push_twos-counted.result 9 = space_then c.requires.space c.push_twos-counted.ensures (omega (arith, length-twos (c.args.bord ∷ length rel ∷ []))) in
+    record { space = narrow space (omega arith); small = c.requires.small }
 
 pub push-requires : goal.push-requires
 push-requires c =
-    let after1 : Space c.push-sent.result 11 = space_field 2 c.args.bord c.requires.0 c.push-sent.ensures (omega arith) in
-    let after2 : Space c.push-counted.result 9 = space_field 2 c.args.count after1 c.push-counted.ensures (omega arith) in
-    let k = c.args.count in
-    let w : c.ptr_bits.result ≤ 3 = pointer_narrow (k + 1) _ (omega arith) (omega (arith, c.requires.2)) c.ptr_bits.ensures in (
-      space_then after2 c.push_rel-lengths.ensures
-          (omega (arith, length-twos (first 0 k c.args.rel), first-length 0 k c.args.rel, c.requires.2)),
-      pointer_fits (k + 1) c.args.pointer _ (omega arith) (omega (arith, c.requires.2)) c.requires.4 c.ptr_bits.ensures,
+    let rel = c.args.rel.now in
+    let space : Space c.push_twos-counted.result 9 = space_then c.requires.space c.push_twos-counted.ensures (omega (arith, length-twos (c.args.bord ∷ length rel ∷ []))) in
+    let w : c.ptr_bits.result ≤ 3 = pointer_narrow (length rel + 1) _ (omega arith) (omega arith) c.ptr_bits.ensures in (
+      space_then space c.push_twos-lengths.ensures (omega (arith, length-twos rel, w)),
+      pointer_fits (length rel + 1) c.args.pointer _ (omega arith) (omega arith) c.requires.pointed c.ptr_bits.ensures,
     )
 
 pub returns : goal.returns
 returns c =
-    let k = c.args.count in
-    let e = c.ptr_bits.ensures ∙ width_ptr (k + 1) (omega arith) (omega (arith, c.requires.2)) in
-    rw (first-length 0 k c.args.rel, ← e)
-    (chain c.push-sent.ensures (chain c.push-counted.ensures (chain c.push_rel-lengths.ensures c.push.ensures)))
+    let rel = c.args.rel.now in
+    let e = c.ptr_bits.ensures ∙ width_ptr (length rel + 1) (omega arith) (omega arith) in
+    rw (← e)
+    (chain c.push_twos-counted.ensures (chain c.push_twos-lengths.ensures c.push.ensures))
