@@ -1,2 +1,1 @@
 pub mod Segments
-pub mod Attack

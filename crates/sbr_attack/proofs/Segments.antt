@@ -1,31 +1,50 @@
--- The loop that writes the lengths of a span down: one turn, and the end.
-use mathlib.Core.Path.{◌≡◌, refl, ap, sym, ◌∙◌}
-use mathlib.Core.List.{List, [], ◌∷◌, ◌++◌, append_assoc, append-nil}
-use Prim.Native.Nat.{ℕ, zero, suc, ◌-◌, ◌≤◌, ◌<◌, min}
+-- A span as its lengths of 8 and the rest.
+use mathlib.Core.Path.{◌≡◌, refl, sym}
+use mathlib.Core.Bool.{cond}
+use mathlib.Core.List.{List, [], ◌∷◌, ◌++◌, append-nil}
+use Prim.Native.Nat.{ℕ, zero, suc, ◌-◌, ◌/◌, ◌%◌, ◌≤◌, min}
+use Rattle.std.proofs.Common.{inl, inr}
 use native.Mathlib.Omega.{arith}
+use lib.Dec.{eqb}
+use lib.ListN.{replicate, take}
 use borrow.Author.Tests.{ne_eqb, eq-eqb}
-use Rattle.sbr_attack.specs.Attack.{segments_by}
+use Rattle.std.proofs.lemmas.Bool.{cases_lt}
+use Rattle.std.proofs.lemmas.List.{take-replicate}
+use Rattle.sbr_attack.specs.Attack.{segments_by, even_segments}
 
--- the count of lengths does not matter once it is large enough
-segments_count : (k l left : ℕ) → left ≤ k → left ≤ l → segments_by k left ≡ segments_by l left
+-- at most k lengths, where k is large enough
+segments : (k left : ℕ) → left ≤ k → segments_by k left ≡ replicate (left / 8) 8 ++ cond (eqb (left % 8) 0) [] ((left % 8) ∷ [])
 unfolding segments_by
-segments_count zero zero left h i = refl
-segments_count zero (suc l) left h i = rw (eq-eqb left 0 (omega arith))
-segments_count (suc k) zero left h i = rw (eq-eqb left 0 (omega arith))
-segments_count (suc k) (suc l) zero h i = refl
-segments_count (suc k) (suc l) (suc left) h i =
-    rw (ne_eqb (suc left) 0 (omega arith)) (ap (λ t. min (suc left) 8 ∷ t) (segments_count k l (suc left - 8) (omega arith) (omega arith)))
+segments zero zero h = refl
+segments zero (suc left) h = absurd (omega arith)
+segments (suc k) zero h = refl
+segments (suc k) (suc left) h = elim (cases_lt (suc left) 8) [
+  | inl low ↦
+      let a : suc left / 8 ≡ 0 = omega arith in
+      let b : suc left % 8 ≡ suc left = omega arith in
+      let d : suc left - 8 ≡ 0 = omega arith in
+      let e : min (suc left) 8 ≡ suc left = omega arith in
+      rw (ne_eqb (suc left) 0 (omega arith), a, b, ne_eqb (suc left) 0 (omega arith), d, e, segments k 0 (omega arith)) refl
+  | inr high ↦
+      let a : suc left / 8 ≡ suc ((suc left - 8) / 8) = omega arith in
+      let b : suc left % 8 ≡ (suc left - 8) % 8 = omega arith in
+      let e : min (suc left) 8 ≡ 8 = omega arith in
+      rw (ne_eqb (suc left) 0 (omega arith), e, segments k (suc left - 8) (omega arith), a, b) refl
+]
 
--- nothing is left
-pub segments_done : (ls r : List ℕ) (left : ℕ) → left ≡ 0 → ls ++ segments_by left left ≡ r → ls ≡ r
-unfolding segments_by
-segments_done ls r left h e = sym (append-nil ls) ∙ (rw h at e)
+-- the lengths of 8 of a span
+abbrev eights : ℕ → List ℕ
+eights span = take (span / 8) (8 ∷ 8 ∷ 8 ∷ [])
 
--- one length more
-pub segments_next : (ls ms r : List ℕ) (left len : ℕ) → 0 < left → len ≡ min left 8 → ms ≡ ls ++ (len ∷ []) → ls ++ segments_by left left ≡ r
-    → ms ++ segments_by (left - len) (left - len) ≡ r
-unfolding segments_by
-segments_next ls ms r zero len h e f g = absurd (omega arith)
-segments_next ls ms r (suc k) len h e f g =
-    let n : suc k - len ≡ suc k - 8 = omega arith in
-    rw (f, n, append_assoc, segments_count (suc k - 8) k (suc k - 8) (omega arith) (omega arith), e) (rw (ne_eqb (suc k) 0 (omega arith)) at g)
+eights_are : (span : ℕ) → span ≤ 24 → eights span ≡ replicate (span / 8) 8
+eights_are span h = take-replicate (span / 8) 3 8 (omega arith)
+
+-- a span that eights fill, and one that leaves a rest
+pub only_eights : (span : ℕ) → span ≤ 24 → span % 8 ≡ 0 → take (span / 8) (8 ∷ 8 ∷ 8 ∷ []) ≡ even_segments span
+only_eights span h e =
+    rw (eights_are span h, segments span span (omega arith), eq-eqb (span % 8) 0 e) (sym (append-nil _))
+
+pub eights_and_rest : (span : ℕ) (s r : List ℕ) → span ≤ 24 → (span % 8 ≡ 0 → ⊥) → s ≡ take (span / 8) (8 ∷ 8 ∷ 8 ∷ []) → r ≡ s ++ ((span % 8) ∷ [])
+    → r ≡ even_segments span
+eights_and_rest span s r h e f g =
+    rw (g, f, eights_are span h, segments span span (omega arith), ne_eqb (span % 8) 0 e) refl

@@ -1,14 +1,9 @@
 -- Grids that put a border on one or two onsets: the builders of src/sbr_encoder.rs under their names. n is the slot count, lead the first
 -- border, s an onset.
-use Rattle.std.specs.Prelude.{Bool, false, cond, ◌&&◌, List, [], ◌∷◌, ◌++◌, reverse, ℕ, zero, suc, ◌+◌, ◌-◌, ◌%◌, max, min, leb, ltb, eqb, length}
-use Rattle.std.proofs.Math.Option.{Option, none, some}
+use Rattle.std.specs.Prelude.{Bool, false, cond, ◌&&◌, List, [], ◌∷◌, ◌++◌, reverse, ℕ, zero, suc, ◌+◌, ◌-◌, ◌%◌, max, min, leb, ltb, eqb, length, Option, Some, None}
 use Rattle.sbr_grid.specs.declared.FrameClass.TheVariants.{FixVar, VarFix}
-use Rattle.sbr_grid.specs.Grid.{Grid, record_of, empty}
+use Rattle.sbr_grid.specs.Grid.{Grid}
 use Rattle.sbr_build.specs.Build.{grid_of, varvar_grid}
-use Rattle.sbr_attack.specs.declared.LateAttack.TheVariants.{Late, NotLate}
-use Rattle.sbr_attack.specs.declared.DoubleAttack.TheVariants.{Double, NotDouble}
-use Rattle.sbr_attack.specs.declared.LateGrid.{LateGrid}
-use Rattle.sbr_attack.specs.declared.DoubleGrid.{DoubleGrid}
 
 -- lengths of 8 first, the rest last; at most k of them
 unfoldable pub segments_by : ℕ → ℕ → List ℕ
@@ -28,7 +23,7 @@ late_attack_varvar s lead n =
     let sp = aligned_attack s lead in
     let segs = even_segments (sp - lead) in
     cond (ltb 0 lead && leb n (sp + 2) && leb (sp + 3) (n + 3) && leb (length segs + 1) 3)
-    (some (varvar_grid lead (sp + 3 - n) (segs ++ (2 ∷ [])) [] (length segs))) none
+    (Some (varvar_grid lead (sp + 3 - n) (segs ++ (2 ∷ [])) [] (length segs))) None
 
 -- the slots after the second onset's envelope: to the end of the frame, 2 at least, made even upward
 abbrev pub tail_of : ℕ → ℕ → ℕ
@@ -43,10 +38,10 @@ double_attack_grid s1 s2 lead n =
     let segs = even_segments (sp1 - lead) in
     cond (leb tail 8 && leb (s2 + 2 + tail) (n + 3))
     (cond (leb (sp1 - lead) 8 && leb (sp1 + 3) s2)
-    (some (varvar_grid lead (s2 + 2 + tail - n) ((sp1 - lead) ∷ 2 ∷ []) (tail ∷ 2 ∷ []) 1))
+    (Some (varvar_grid lead (s2 + 2 + tail - n) ((sp1 - lead) ∷ 2 ∷ []) (tail ∷ 2 ∷ []) 1))
     (cond (leb n (s2 + 2) && leb (sp1 + 3) s2 && eqb (length segs) 2)
-    (some (varvar_grid lead (s2 + 2 - n) (segs ++ (2 ∷ [])) (2 ∷ []) 2)) none))
-    none
+    (Some (varvar_grid lead (s2 + 2 - n) (segs ++ (2 ∷ [])) (2 ∷ []) 2)) None))
+    None
 
 -- the lengths from the onset to the end, and from the lead to the onset
 unfoldable pub fixvar_segs : ℕ → List ℕ
@@ -77,12 +72,3 @@ varfix_grid s lead n =
 
 unfoldable pub variable_grid : ℕ → ℕ → ℕ → Grid
 variable_grid s lead n = cond (eqb lead 0) (fixvar_grid s n) (varfix_grid s lead n)
-
--- the enum and the record that a builder hands out for a grid, or for none
-abbrev pub late_of : Option Grid → LateGrid
-late_of none = record { answer = NotLate; grid = empty }
-late_of (some g) = record { answer = Late; grid = record_of g }
-
-abbrev pub double_of : Option Grid → DoubleGrid
-double_of none = record { answer = NotDouble; grid = empty }
-double_of (some g) = record { answer = Double; grid = record_of g }

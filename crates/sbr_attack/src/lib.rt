@@ -1,226 +1,149 @@
 // Grids that put a border on one or two onsets: src/sbr_encoder.rs.
 #![tactic(auto)]
 
-ghost use Rattle.std.specs.Prelude.{◌≡◌, [], ◌∷◌, ◌++◌, reverse, ◌+◌, ◌-◌, ◌≤◌, ◌<◌};
-ghost use Rattle.std.proofs.Math.Option.{none, some};
+ghost use Rattle.std.specs.Prelude.{◌≡◌, reverse, length, ◌+◌, ◌-◌, ◌≤◌, ◌<◌};
+ghost use Rattle.std.specs.Option.{option_map};
 ghost use Rattle.sbr_grid.specs.Grid.{record_of};
-ghost use Rattle.sbr_build.specs.Build.{length_list, lengths_of, varvar_grid};
-ghost use Rattle.sbr_build.specs.Cases.{FrameBounds};
-ghost use Rattle.sbr_attack.specs.Attack.{even_segments, aligned_attack, late_attack_varvar, tail_of, double_attack_grid, fixvar_segs, varfix_segs, varfix_mark, fixvar_grid, varfix_grid, variable_grid, late_of, double_of};
+ghost use Rattle.sbr_attack.specs.Attack.{even_segments, aligned_attack, late_attack_varvar, tail_of, double_attack_grid, fixvar_segs, varfix_segs, varfix_mark, fixvar_grid, varfix_grid, variable_grid};
 
-use sbr_build::Lengths;
+use sbr_build::{Frame, Slots};
 use sbr_grid::{FrameClass, SbrGrid};
 
+// An onset inside a frame, from slot 4 on.
 #[derive(Clone, Copy)]
-pub enum LateAttack {
-    Late,
-    NotLate,
-}
-
-#[derive(Clone, Copy)]
-pub struct LateGrid {
-    pub answer: LateAttack,
-    pub grid: SbrGrid,
-}
-
-#[derive(Clone, Copy)]
-pub enum DoubleAttack {
-    Double,
-    NotDouble,
-}
-
-#[derive(Clone, Copy)]
-pub struct DoubleGrid {
-    pub answer: DoubleAttack,
-    pub grid: SbrGrid,
+pub struct Attack {
+    pub s: u8,
+    pub frame: Frame,
+    pub ghost inside: { (4 ≤ s) × (s < frame.nts) },
 }
 
 // A span as lengths of 8 and a rest.
-fn even_segments(span: u32) -> Lengths
+#[tactic(auto, using(crate::proofs::Segments::only_eights, crate::proofs::Segments::eights_and_rest))]
+fn even_segments(span: u8) -> Slots
     requires { span ≤ 24 }
-    ensures { (result ≡ lengths_of (even_segments span)) × (result.count ≤ 3) }
+    ensures { result ≡ even_segments span }
 {
-    let mut segs = Lengths::none();
-    let mut left = span;
-    while 0 < left {
-        let len = if left < 8 { left } else { 8 };
-        segs = segs.push(len);
-        left -= len;
+    let mut segs = Slots::of(&[8; 3][..(span / 8) as usize]);
+    if span % 8 != 0 {
+        segs.push(span % 8);
     }
     segs
 }
 
 // The onset moved down to the lead's parity, two slots after the lead at least.
-fn aligned_attack(s: u32, lead: u32) -> u32
-    requires { (s ≤ 16) × (lead ≤ 3) × (4 ≤ s) }
-    ensures { (result ≡ aligned_attack s lead) × (lead + 2 ≤ result) × (result ≤ s + 1) }
+fn aligned_attack(attack: Attack) -> u8
+    ensures { (result ≡ aligned_attack attack.s attack.frame.lead) × (attack.frame.lead + 2 ≤ result) × (result ≤ attack.s + 1) }
 {
-    let sp = s - (s + lead) % 2;
-    if sp < lead + 2 { lead + 2 } else { sp }
-}
-
-fn not_late() -> LateGrid
-    ensures { result ≡ late_of none }
-{
-    LateGrid {
-        answer: LateAttack::NotLate,
-        grid: SbrGrid::empty(),
-    }
-}
-
-// The grid of one late onset that ends `over` slots past the frame.
-fn late_grid(lead: u32, over: u32, segs: Lengths) -> LateGrid
-    requires { (lead ≤ 3) × (over ≤ 3) × (segs.count ≤ 3) }
-    ensures { result ≡ late_of (some (varvar_grid lead over (length_list segs ++ (2 ∷ [])) [] segs.count)) }
-{
-    LateGrid {
-        answer: LateAttack::Late,
-        grid: sbr_build::varvar_grid(lead, over, segs.push(2), Lengths::none(), segs.count),
-    }
+    let s = attack.s;
+    let lead = attack.frame.lead;
+    (s - (s + lead) % 2).max(lead + 2)
 }
 
 // One late onset after a variable lead.
-pub fn late_attack_varvar(s: u32, lead: u32, nts: u32) -> LateGrid
-    requires { (4 ≤ s) × (s < nts) × FrameBounds nts lead }
-    ensures { result ≡ late_of (late_attack_varvar s lead nts) }
+#[tactic(auto, unfolding(crate::specs::Attack::late_attack_varvar))]
+pub fn late_attack_varvar(attack: Attack) -> Option<SbrGrid>
+    ensures { result ≡ option_map record_of (late_attack_varvar attack.s attack.frame.lead attack.frame.nts) }
 {
-    if lead == 0 {
-        return not_late();
+    let Frame { nts, lead } = attack.frame;
+    let sp = aligned_attack(attack);
+    if lead == 0 || sp + 2 < nts || nts < sp {
+        return None;
     }
-    let sp = aligned_attack(s, lead);
-    if sp + 2 < nts {
-        return not_late();
+    let mut segs = even_segments(sp - lead);
+    let count = segs.as_slice().len();
+    if SbrGrid::MAX_SIDE_REL < count + 1 {
+        return None;
     }
-    if nts < sp {
-        return not_late();
-    }
-    let segs = even_segments(sp - lead);
-    if SbrGrid::MAX_SIDE_REL < segs.count + 1 {
-        return not_late();
-    }
-    late_grid(lead, sp + 3 - nts, segs)
+    segs.push(2);
+    Some(sbr_build::varvar_grid(lead, sp + 3 - nts, segs.as_slice(), &[], count))
 }
 
 // The slots after the second onset's envelope: to the end of the frame, 2 at least, made even upward.
-fn tail_of(s2: u32, nts: u32) -> u32
-    requires { (s2 ≤ 16) × (nts ≤ 16) }
-    ensures { (result ≡ tail_of s2 nts) × (result ≤ 16) }
+fn tail_of(s2: u8, frame: Frame) -> u8
+    requires { s2 ≤ 16 }
+    ensures { (result ≡ tail_of s2 frame.nts) × (result ≤ 16) }
 {
-    let tail = if s2 + 4 < nts { nts - (s2 + 2) } else { 2 };
+    let tail = frame.nts.saturating_sub(s2 + 2).max(2);
     tail + tail % 2
 }
 
-fn not_double() -> DoubleGrid
-    ensures { result ≡ double_of none }
+// Two onsets with an envelope of two slots each: the first one length after the lead, or two.
+#[tactic(auto, unfolding(crate::specs::Attack::double_attack_grid))]
+pub fn double_attack_grid(first: Attack, s2: u8) -> Option<SbrGrid>
+    requires { (first.s + 4 ≤ s2) × (s2 < first.frame.nts) }
+    ensures { result ≡ option_map record_of (double_attack_grid first.s s2 first.frame.lead first.frame.nts) }
 {
-    DoubleGrid {
-        answer: DoubleAttack::NotDouble,
-        grid: SbrGrid::empty(),
-    }
-}
-
-// The grid of two onsets, the first one length after the lead.
-fn near_double(lead: u32, over: u32, first: u32, tail: u32) -> DoubleGrid
-    requires { (lead ≤ 3) × (over ≤ 3) × (first ≤ 8) × (tail ≤ 8) }
-    ensures { result ≡ double_of (some (varvar_grid lead over (first ∷ 2 ∷ []) (tail ∷ 2 ∷ []) 1)) }
-{
-    DoubleGrid {
-        answer: DoubleAttack::Double,
-        grid: sbr_build::varvar_grid(
-            lead,
-            over,
-            sbr_build::two(first, 2),
-            sbr_build::two(tail, 2),
-            1,
-        ),
-    }
-}
-
-// The grid of two onsets, the first two lengths after the lead.
-fn far_double(lead: u32, over: u32, segs: Lengths) -> DoubleGrid
-    requires { (lead ≤ 3) × (over ≤ 3) × (segs.count ≡ 2) }
-    ensures { result ≡ double_of (some (varvar_grid lead over (length_list segs ++ (2 ∷ [])) (2 ∷ []) 2)) }
-{
-    DoubleGrid {
-        answer: DoubleAttack::Double,
-        grid: sbr_build::varvar_grid(lead, over, segs.push(2), Lengths::none().push(2), 2),
-    }
-}
-
-// Two onsets with an envelope of two slots each.
-pub fn double_attack_grid(s1: u32, s2: u32, lead: u32, nts: u32) -> DoubleGrid
-    requires { (4 ≤ s1) × (s1 + 4 ≤ s2) × (s2 < nts) × FrameBounds nts lead }
-    ensures { result ≡ double_of (double_attack_grid s1 s2 lead nts) }
-{
-    let tail = tail_of(s2, nts);
-    if 8 < tail {
-        return not_double();
-    }
+    let Frame { nts, lead } = first.frame;
+    let tail = tail_of(s2, first.frame);
     let t = s2 + 2 + tail;
-    if nts + (SbrGrid::MAX_VAR_BORD as u32) < t {
-        return not_double();
+    let sp1 = aligned_attack(first);
+    if 8 < tail || nts + SbrGrid::MAX_VAR_BORD < t || s2 < sp1 + 3 {
+        return None;
     }
-    let sp1 = aligned_attack(s1, lead);
-    if s2 < sp1 + 3 {
-        return not_double();
-    }
-    if sp1 - lead <= 8 {
-        return near_double(lead, t - nts, sp1 - lead, tail);
+    let span = sp1 - lead;
+    if span <= 8 {
+        return Some(sbr_build::varvar_grid(lead, t - nts, &[span, 2], &[tail, 2], 1));
     }
     if s2 + 2 < nts {
-        return not_double();
+        return None;
     }
-    let segs = even_segments(sp1 - lead);
-    if segs.count != 2 {
-        return not_double();
+    let mut segs = even_segments(span);
+    if segs.as_slice().len() != 2 {
+        return None;
     }
-    far_double(lead, s2 + 2 - nts, segs)
+    segs.push(2);
+    Some(sbr_build::varvar_grid(lead, s2 + 2 - nts, segs.as_slice(), &[2], 2))
 }
 
 // The lengths from the onset to the end, last first.
-fn fixvar_segs(rest: u32) -> Lengths
+#[tactic(auto, unfolding(crate::specs::Attack::fixvar_segs))]
+fn fixvar_segs(rest: u8) -> Slots
     requires { rest ≤ 16 }
-    ensures { (result ≡ lengths_of (reverse (fixvar_segs rest))) × (1 ≤ result.count) × (result.count ≤ 3) }
+    ensures { (result ≡ reverse (fixvar_segs rest)) × (1 ≤ length result) × (length result ≤ 3) }
 {
     if rest <= 2 {
-        return Lengths::none().push(rest);
+        Slots::of(&[rest])
+    } else if rest <= 10 {
+        Slots::of(&[rest - 2, 2])
+    } else {
+        Slots::of(&[rest - 10, 8, 2])
     }
-    if rest <= 10 {
-        return sbr_build::two(rest - 2, 2);
-    }
-    sbr_build::two(rest - 10, 8).push(2)
 }
 
 // One onset, no lead: an even border on it, then lengths back from the end.
-fn fixvar_grid(s: u32, nts: u32) -> SbrGrid
-    requires { (4 ≤ s) × (s < nts) × (15 ≤ nts) × (nts ≤ 16) }
-    ensures { result ≡ record_of (fixvar_grid s nts) }
+#[tactic(auto, unfolding(crate::specs::Attack::fixvar_grid))]
+fn fixvar_grid(attack: Attack) -> SbrGrid
+    ensures { result ≡ record_of (fixvar_grid attack.s attack.frame.nts) }
 {
-    let sp = s - s % 2;
-    let t = if nts < sp + 4 { sp + 4 } else { nts };
-    let segs = fixvar_segs(t - sp);
-    let num_env = segs.count + 1;
+    let nts = attack.frame.nts;
+    let sp = attack.s - attack.s % 2;
+    let t = nts.max(sp + 4);
+    let lengths = fixvar_segs(t - sp);
+    let segs = lengths.as_slice();
+    let num_env = segs.len() + 1;
     sbr_build::grid_of(
         FrameClass::FixVar,
         num_env,
         false,
         0,
         t - nts,
-        Lengths::none(),
+        &[],
         segs,
-        num_env,
+        num_env as u8,
     )
 }
 
 // The lengths from the lead to the onset.
-fn varfix_segs(span: u32) -> Lengths
+#[tactic(auto, unfolding(crate::specs::Attack::varfix_segs))]
+fn varfix_segs(span: u8) -> Slots
     requires { span ≤ 16 }
-    ensures { (result ≡ lengths_of (varfix_segs span)) × (1 ≤ result.count) × (result.count ≤ 2) }
+    ensures { (result ≡ varfix_segs span) × (1 ≤ length result) × (length result ≤ 2) }
 {
     if span <= 8 {
-        return Lengths::none().push(span);
+        Slots::of(&[span])
+    } else {
+        Slots::of(&[8, span - 8])
     }
-    sbr_build::two(8, span - 8)
 }
 
 // The mark of a VarFix grid of k lengths, the last of them the onset's envelope or not.
@@ -228,24 +151,23 @@ fn varfix_mark(k: usize, short: bool) -> usize
     requires { (1 ≤ k) × (k ≤ 3) }
     ensures { (result ≡ varfix_mark k short) × (result ≤ 3) }
 {
-    if short {
-        return k;
-    }
-    if k == 1 { 1 } else { k - 1 }
+    if short { k } else { (k - 1).max(1) }
 }
 
 // One onset after a variable lead: lengths from the lead up to it.
-fn varfix_grid(s: u32, lead: u32, nts: u32) -> SbrGrid
-    requires { (4 ≤ s) × (s < nts) × FrameBounds nts lead }
-    ensures { result ≡ record_of (varfix_grid s lead nts) }
+#[tactic(auto, unfolding(crate::specs::Attack::varfix_grid))]
+fn varfix_grid(attack: Attack) -> SbrGrid
+    ensures { result ≡ record_of (varfix_grid attack.s attack.frame.lead attack.frame.nts) }
 {
-    let sp = aligned_attack(s, lead);
+    let Frame { nts, lead } = attack.frame;
+    let sp = aligned_attack(attack);
     let short = sp + 2 < nts;
-    let mut rel = varfix_segs(sp - lead);
+    let mut segs = varfix_segs(sp - lead);
     if short {
-        rel = rel.push(2);
+        segs.push(2);
     }
-    let k = rel.count;
+    let rel = segs.as_slice();
+    let k = rel.len();
     sbr_build::grid_of(
         FrameClass::VarFix,
         k + 1,
@@ -253,19 +175,19 @@ fn varfix_grid(s: u32, lead: u32, nts: u32) -> SbrGrid
         lead,
         0,
         rel,
-        Lengths::none(),
-        varfix_mark(k, short) + 1,
+        &[],
+        varfix_mark(k, short) as u8 + 1,
     )
 }
 
 // One onset: FixVar where the frame begins at 0, VarFix from a lead.
 #[tactic(auto, unfolding(crate::specs::Attack::variable_grid))]
-pub fn variable_grid(s: u32, lead: u32, nts: u32) -> SbrGrid
-    requires { (4 ≤ s) × (s < nts) × FrameBounds nts lead }
-    ensures { result ≡ record_of (variable_grid s lead nts) }
+pub fn variable_grid(attack: Attack) -> SbrGrid
+    ensures { result ≡ record_of (variable_grid attack.s attack.frame.lead attack.frame.nts) }
 {
-    if lead == 0 {
-        return fixvar_grid(s, nts);
+    if attack.frame.lead == 0 {
+        fixvar_grid(attack)
+    } else {
+        varfix_grid(attack)
     }
-    varfix_grid(s, lead, nts)
 }

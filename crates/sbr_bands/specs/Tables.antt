@@ -1,6 +1,6 @@
 -- The band tables (docs/ORDER.md, RF-11 to RF-18), and neighbours of a list: the bands of a table, the envelopes of a list of borders.
-use Rattle.std.specs.Prelude.{Bool, true, false, ◌&&◌, ◌||◌, List, [], ◌∷◌, ℕ, zero, suc, ◌+◌, ◌-◌, leb, eqb, length, get_or}
-use Rattle.sbr_time_grid.specs.TimeGrid.{rises}
+use Rattle.std.specs.Prelude.{Bool, ◌&&◌, List, [], ◌∷◌, ℕ, zero, suc, ◌+◌, ◌-◌, leb, eqb, length, get_or, drop, nat_lt}
+use Rattle.std.specs.List.{list_all, list_any, zip}
 
 abbrev pub entry : List ℕ → ℕ → ℕ
 entry xs i = get_or xs i 0
@@ -11,25 +11,25 @@ last_entry xs = entry xs (length xs - 1)
 
 -- each entry is above the one before it
 abbrev pub climbs : List ℕ → Bool
-climbs xs = rises (entry xs) (length xs - 1)
+climbs xs = list_all (λ p. nat_lt p.0 p.1) (zip xs (drop 1 xs))
 
--- b is one of the first n entries
-unfoldable pub among : List ℕ → ℕ → ℕ → Bool
-among xs zero b = false
-among xs (suc n) b = among xs n b || eqb (entry xs n) b
+-- b is one of the entries
+unfoldable pub among : List ℕ → ℕ → Bool
+among xs b = list_any (λ x. eqb x b) xs
 
--- the first n of low are entries of high
-unfoldable pub drawn : List ℕ → List ℕ → ℕ → Bool
-drawn high low zero = true
-drawn high low (suc n) = drawn high low n && among high (length high) (entry low n)
+-- the entries of low are entries of high
+unfoldable pub drawn : List ℕ → List ℕ → Bool
+drawn high low = list_all (among high) low
 
 unfoldable pub high_fits : List ℕ → Bool
 high_fits high = leb 2 (length high) && climbs high && leb (last_entry high) 64
 
+-- low has an entry, and its ends are those of high
+abbrev pub ends_alike : List ℕ → List ℕ → Bool
+ends_alike high low = leb 1 (length low) && eqb (entry low 0) (entry high 0) && eqb (last_entry low) (last_entry high)
+
 unfoldable pub low_fits : List ℕ → List ℕ → Bool
-low_fits high low =
-    leb 1 (length low) && climbs low && drawn high low (length low) && eqb (entry low 0) (entry high 0)
-    && eqb (last_entry low) (last_entry high)
+low_fits high low = ends_alike high low && climbs low && drawn high low
 
 abbrev pub tables_fit : List ℕ → List ℕ → Bool
 tables_fit high low = high_fits high && low_fits high low

@@ -1,4 +1,3 @@
-pub mod Lists
+pub mod FitCounts
 pub mod Shifts
 pub mod Walks
-pub mod FitCounts

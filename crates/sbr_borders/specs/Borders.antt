@@ -1,6 +1,5 @@
 -- Wanted borders, their shifts, and the even lengths that reach them: `varvar_from_borders` of src/sbr_encoder.rs, docs/ORDER.md, BS.
-use Rattle.std.specs.Prelude.{Bool, true, cond, ◌&&◌, ◌||◌, List, [], ◌∷◌, reverse, ℕ, zero, suc, ◌+◌, ◌-◌, ◌%◌, leb, ltb, eqb, length, take, drop}
-use Rattle.std.proofs.Math.Option.{Option, none, some}
+use Rattle.std.specs.Prelude.{Bool, true, cond, ◌&&◌, ◌||◌, List, [], ◌∷◌, reverse, ℕ, zero, suc, ◌+◌, ◌-◌, ◌%◌, leb, ltb, eqb, length, take, drop, Option, Some, None}
 use Rattle.sbr_borders.specs.declared.WantedBorder.{WantedBorder}
 
 -- ---- wanted borders and their shifts
@@ -27,13 +26,13 @@ prices (w ∷ ws) (i ∷ is) = price w i + prices ws is
 
 -- the next shifts, the first border's turning fastest
 abbrev pub prepend : ℕ → Option (List ℕ) → Option (List ℕ)
-prepend i none = none
-prepend i (some is) = some (i ∷ is)
+prepend i None = None
+prepend i (Some is) = Some (i ∷ is)
 
 unfoldable pub next_shifts : List WantedBorder → List ℕ → Option (List ℕ)
-next_shifts [] is = none
-next_shifts (w ∷ ws) [] = none
-next_shifts (w ∷ ws) (i ∷ is) = cond (ltb (i + 1) (shift_count w)) (some ((i + 1) ∷ is)) (prepend 0 (next_shifts ws is))
+next_shifts [] is = None
+next_shifts (w ∷ ws) [] = None
+next_shifts (w ∷ ws) (i ∷ is) = cond (ltb (i + 1) (shift_count w)) (Some ((i + 1) ∷ is)) (prepend 0 (next_shifts ws is))
 
 -- ---- what the borders ask for
 
@@ -76,8 +75,8 @@ reaches lead t k bs =
 
 -- the first of the counts k, k + 1, .. of leading lengths, j of them, that reaches every border
 unfoldable pub fit : ℕ → ℕ → ℕ → ℕ → List ℕ → Option ℕ
-fit zero k lead t bs = none
-fit (suc j) k lead t bs = cond (reaches lead t k bs) (some k) (fit j (suc k) lead t bs)
+fit zero k lead t bs = None
+fit (suc j) k lead t bs = cond (reaches lead t k bs) (Some k) (fit j (suc k) lead t bs)
 
 -- the border wanted for an onset
 abbrev pub onset_at : ℕ → WantedBorder

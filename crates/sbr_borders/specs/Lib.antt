@@ -1,2 +1,3 @@
 pub mod Borders
+pub mod Frames
 pub mod Wanted

@@ -1,4 +1,3 @@
-pub mod LengthsOf
+pub mod SlotList
 pub mod OnsetsRecord
-pub mod GridOf
 pub mod Shares

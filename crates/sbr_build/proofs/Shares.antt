@@ -1,14 +1,11 @@
--- The loop that writes even shares down, one turn and the end, and the grid of what it writes.
+-- The loop that writes even shares down: one turn, and the end.
 use mathlib.Core.Path.{◌≡◌, sym, ◌∙◌}
 use mathlib.Core.List.{List, [], ◌∷◌, ◌++◌, append_assoc, append-nil}
-use Prim.Native.Nat.{ℕ, zero, suc, ◌+◌, ◌-◌, ◌≤◌, ◌<◌}
+use Prim.Native.Nat.{ℕ, zero, suc, ◌-◌, ◌≤◌, ◌<◌}
 use native.Mathlib.Omega.{arith}
 use native.Mathlib.Numerals.{sub-one}
 use borrow.Author.Tests.{le-leb, lt-leb}
-use lib.Dec.{leb}
-use lib.ListN.{length}
-use Rattle.sbr_grid.specs.declared.FrameClass.TheVariants.{VarFix}
-use Rattle.sbr_build.specs.Build.{grid_of, even_share, shares, varfix_plain}
+use Rattle.sbr_build.specs.Build.{even_share, shares}
 
 -- the last envelope writes no length down
 pub shares_done : (ls r : List ℕ) (k left : ℕ) → k ≤ 1 → ls ++ shares k left ≡ r → ls ≡ r
@@ -33,8 +30,3 @@ shares-next ls ms r zero left len h e f g i = absurd (omega arith)
 shares-next ls ms r (suc zero) left len h e f g i = absurd (omega arith)
 shares-next ls ms r (suc (suc k)) left len h e f g i =
     rw (g, append_assoc, e, sub-one) (rw (lt-leb left (even_share left (suc (suc k))) (rw e at f)) at i)
-
--- the plain VarFix grid from the lengths that it writes down
-pub plain_from : (lead k n : ℕ) (rel : List ℕ) (l : ℕ) → rel ≡ shares k (n - lead) → l ≡ length rel + 1 → varfix_plain lead k n ≡ grid_of VarFix l (leb l 2) lead 0 rel [] 0
-unfolding varfix_plain
-plain_from lead k n rel l e f = rw (f, e)

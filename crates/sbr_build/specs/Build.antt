@@ -1,22 +1,9 @@
 -- Grids of even envelopes, and the forms of all builders: src/sbr_encoder.rs, under its names. n is the slot count, lead the first border.
 -- Lengths and borders are whole numbers from 0 on; no builder reaches a negative one.
-use Rattle.std.specs.Prelude.{Bool, false, cond, List, [], ◌∷◌, map, ℕ, zero, suc, ◌+◌, ◌-◌, ◌/◌, ◌%◌, max, min, leb, eqb, length, set, replicate}
+use Rattle.std.specs.Prelude.{Bool, false, cond, List, [], ◌∷◌, map, ℕ, zero, suc, ◌+◌, ◌-◌, ◌/◌, ◌%◌, max, min, leb, eqb, length, replicate}
 use Rattle.sbr_grid.specs.declared.FrameClass.{FrameClass}
 use Rattle.sbr_grid.specs.declared.FrameClass.TheVariants.{FixFix, VarFix, VarVar}
-use Rattle.sbr_grid.specs.Grid.{by_class, noise_of, first, Grid, made}
-use Rattle.sbr_build.specs.declared.Lengths.{Lengths}
-
--- the lengths of an array with a count
-abbrev pub length_list : Lengths → List ℕ
-length_list l = first 0 l.count l.slots
-
--- the array and the count of lengths: places past the count are zero
-unfoldable pub lengths_of : List ℕ → Lengths
-lengths_of l = record { count = length l; slots = first 0 4 l }
-
--- one more length behind the others
-unfoldable pub pushed : Lengths → ℕ → Lengths
-pushed l x = record { count = l.count + 1; slots = set l.slots l.count x }
+use Rattle.sbr_grid.specs.Grid.{by_class, noise_of, Grid, made}
 
 -- raw_rel: the stored form of a length, halved toward zero
 abbrev pub raw : ℕ → ℕ

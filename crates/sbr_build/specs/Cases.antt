@@ -1,5 +1,4 @@
--- Onsets as the builders take them, and what a frame may hand to the builders: its bounds, and as many onsets as the scan finds at most, four slots
--- or more apart.
+-- Onsets as the builders take them, and what a frame may hand to the builders: as many onsets as the scan finds at most, four slots or more apart.
 use Rattle.std.specs.Prelude.{◌≡◌, true, List, [], ◌∷◌, ℕ, zero, suc, ◌+◌, ◌≤◌, ◌<◌, length}
 use Rattle.sbr_grid.specs.Grid.{first}
 use Rattle.sbr_grid.specs.Times.{is_slot_count}
@@ -12,12 +11,6 @@ onset_list o = first 0 o.count o.slot
 -- the array and the count of onsets: places past the count are zero
 unfoldable pub onsets_record : List ℕ → Onsets
 onsets_record os = record { count = length os; slot = first 0 3 os }
-
--- the slot count of a frame, and its lead
-pub record FrameBounds (n lead : ℕ) : Type 0 where
-  pub least : 15 ≤ n
-  pub most : n ≤ 16
-  pub held : lead ≤ 3
 
 -- at most k onsets from slot lo on and before n, each 4 or more after the one before
 abbrev pub OnsetsFrom : ℕ → ℕ → ℕ → List ℕ → Type 0

@@ -1,14 +1,24 @@
 // Grids of even envelopes, and what all builders are made of: src/sbr_encoder.rs.
 #![tactic(auto)]
 
-ghost use Rattle.std.specs.Prelude.{◌≡◌, false, [], ◌∷◌, map, ◌+◌, ◌-◌, ◌≤◌, ◌<◌, replicate};
+ghost use Rattle.std.specs.Prelude.{◌≡◌, List, ℕ, [], ◌++◌, ◌∷◌, map, length, ◌+◌, ◌-◌, ◌≤◌, ◌<◌};
 ghost use Rattle.sbr_grid.specs.Grid.{first, record_of};
-ghost use Rattle.sbr_build.specs.Cases.{FrameBounds};
-ghost use Rattle.sbr_build.specs.Build.{length_list, lengths_of, pushed, raw, grid_of, fixfix_grid, varvar_grid, even_share, shares, varfix_plain};
+ghost use Rattle.sbr_build.specs.Frames.{FrameBounds};
+ghost use Rattle.sbr_build.specs.Build.{raw, grid_of, fixfix_grid, varvar_grid, even_share, shares, varfix_plain};
 
 use sbr_grid::{FrameClass, SbrGrid};
+use std::marker::Model;
+
+// The slot count of a frame, 15 or 16, and its first border, 0 to 3.
+#[derive(Clone, Copy)]
+pub struct Frame {
+    pub nts: u8,
+    pub lead: u8,
+    pub ghost bounds: { FrameBounds nts lead },
+}
 
 // The onset slots of a frame, the first `count` places.
+// An array and its count, since the memory is fixed; `slots` hands out the slice.
 #[derive(Clone, Copy)]
 pub struct Onsets {
     pub count: usize,
@@ -16,90 +26,89 @@ pub struct Onsets {
 }
 
 impl Onsets {
+    ghost use Rattle.sbr_build.specs.Cases.{onset_list};
+
     // Most onsets that a frame's grid can give an envelope each.
     pub const MAX_ONSETS: usize = 3;
-}
 
-// Lengths in slots, the first `count` places.
-#[derive(Clone, Copy)]
-pub struct Lengths {
-    pub count: usize,
-    pub slots: [u8; SbrGrid::MAX_REL_BORD],
-}
-
-impl Lengths {
-    #[tactic(auto, unfolding(crate::specs::Build::lengths_of))]
-    pub fn none() -> Self
-        ensures { (result ≡ lengths_of []) × (result.count ≡ 0) }
+    // The onsets, in order.
+    pub fn slots(&self) -> &[u32]
+        requires { self.now.count ≤ 3 }
+        ensures { result.now ≡ onset_list self.now }
     {
-        Lengths {
+        sbr_grid::front(&self.slot, self.count)
+    }
+}
+
+// At most four numbers of slots, as lengths or borders; contracts see their list.
+#[derive(Drop)]
+pub struct Slots {
+    count: usize,
+    slots: [u8; SbrGrid::MAX_REL_BORD],
+}
+
+impl Model for Slots {
+    ghost Value = { List ℕ };
+
+    ghost view = { λ l. first 0 l.count l.slots };
+
+    ghost invariant = { λ l. l.count ≤ 4 };
+}
+
+impl Slots {
+    // None yet.
+    pub fn new() -> Self
+        ensures { result ≡ [] }
+    {
+        Slots {
             count: 0,
             slots: [0u8; SbrGrid::MAX_REL_BORD],
         }
     }
 
-    // One more length behind the others.
-    #[tactic(auto, unfolding(crate::specs::Build::pushed))]
-    pub fn push(self, len: u32) -> Self
-        requires { (self.count < 4) × (len ≤ 255) }
-        ensures { (result ≡ pushed self len) × (result.count ≡ self.count + 1) }
+    // The numbers handed in, in order.
+    #[tactic(auto, using(crate::proofs::SlotList::first_of))]
+    pub fn of(slots: &[u8]) -> Self
+        requires { length slots.now ≤ 4 }
+        ensures { result ≡ slots.now }
     {
-        let at = self.count;
-        let mut slots = self.slots;
-        slots[at] = len as u8;
-        Lengths {
-            count: at + 1,
-            slots,
+        Slots {
+            count: slots.len(),
+            slots: sbr_grid::padded(slots, 0),
         }
     }
-}
 
-pub fn two(a: u32, b: u32) -> Lengths
-    requires { (a ≤ 255) × (b ≤ 255) }
-    ensures { (result ≡ lengths_of (a ∷ b ∷ [])) × (result.count ≡ 2) }
-{
-    Lengths::none().push(a).push(b)
+    // One more behind the others.
+    #[tactic(auto, using(crate::proofs::SlotList::first_with))]
+    pub fn push(&mut self, more: u8)
+        requires { length self.old < 4 }
+        ensures { self.new ≡ self.old ++ (more ∷ []) }
+    {
+        self.slots[self.count] = more;
+        self.count += 1;
+    }
+
+    // The numbers, in order.
+    #[tactic(auto, using(crate::proofs::SlotList::first_few))]
+    pub fn as_slice(&self) -> &[u8]
+        ensures { (result.now ≡ self.now) × (length result.now ≤ 4) }
+    {
+        sbr_grid::front(&self.slots, self.count)
+    }
 }
 
 // The stored form of a length.
 fn raw_of(len: u8) -> u8
     ensures { result ≡ raw len }
 {
-    if len < 2 { 0 } else { (len - 2) / 2 }
+    len.saturating_sub(2) / 2
 }
 
 // The stored forms of lengths; places past the count are zero.
-fn raw_rel(segs: Lengths) -> [u8; SbrGrid::MAX_REL_BORD]
-    requires { segs.count ≤ 4 }
-    ensures { result ≡ first 0 4 (map raw (length_list segs)) }
+fn raw_rel(lengths: &[u8]) -> [u8; SbrGrid::MAX_REL_BORD]
+    ensures { result ≡ first 0 4 (map raw lengths.now) }
 {
-    let mut out = [0u8; SbrGrid::MAX_REL_BORD];
-    for i in 0..segs.count {
-        out[i] = raw_of(segs.slots[i]);
-    }
-    out
-}
-
-// The flags of num_env envelopes; places past them are false.
-fn flags(num_env: usize, high: bool) -> [bool; SbrGrid::MAX_NUM_ENV]
-    requires { num_env ≤ 5 }
-    ensures { result ≡ first false 5 (replicate num_env high) }
-{
-    let mut out = [false; SbrGrid::MAX_NUM_ENV];
-    for i in 0..num_env {
-        out[i] = high;
-    }
-    out
-}
-
-// Whether the amplitude override is set: a single FixFix envelope.
-fn single(class: FrameClass, num_env: usize) -> bool
-    ensures { result ≡ (grid_of class num_env false 0 0 [] [] 0).amp_override }
-{
-    match class {
-        FrameClass::FixFix => num_env == 1,
-        FrameClass::FixVar | FrameClass::VarFix | FrameClass::VarVar => false,
-    }
+    sbr_grid::padded::<u8, { SbrGrid::MAX_REL_BORD }>(lengths, 0).map(raw_of)
 }
 
 // A grid of num_env envelopes at one resolution.
@@ -107,55 +116,47 @@ pub fn grid_of(
     class: FrameClass,
     num_env: usize,
     high: bool,
-    lead: u32,
-    over: u32,
-    rel_0: Lengths,
-    rel_1: Lengths,
-    pointer: usize,
+    lead: u8,
+    over: u8,
+    rel_0: &[u8],
+    rel_1: &[u8],
+    pointer: u8,
 ) -> SbrGrid
-    requires { (num_env ≤ 5) × (lead ≤ 255) × (over ≤ 255) × (rel_0.count ≤ 4) × (rel_1.count ≤ 4) × (pointer ≤ 255) }
-    ensures { result ≡ record_of (grid_of class num_env high lead over (length_list rel_0) (length_list rel_1) pointer) }
+    requires { (num_env ≤ 5) × (length rel_0.now ≤ 4) × (length rel_1.now ≤ 4) }
+    ensures { result ≡ record_of (grid_of class num_env high lead over rel_0.now rel_1.now pointer) }
 {
-    let num_noise = if 1 < num_env { 2 } else { 1 };
     SbrGrid {
         frame_class: class,
         num_env,
-        num_noise,
-        freq_res: flags(num_env, high),
-        var_bord_0: lead as u8,
-        var_bord_1: over as u8,
+        num_noise: sbr_grid::noise_of(num_env),
+        freq_res: sbr_grid::same_resolutions(num_env, high),
+        var_bord_0: lead,
+        var_bord_1: over,
         rel_bord_0: raw_rel(rel_0),
-        num_rel_0: rel_0.count,
+        num_rel_0: rel_0.len(),
         rel_bord_1: raw_rel(rel_1),
-        num_rel_1: rel_1.count,
-        pointer: pointer as u8,
-        amp_res_override: single(class, num_env),
+        num_rel_1: rel_1.len(),
+        pointer,
+        amp_res_override: sbr_grid::is_overridden(class, num_env),
     }
 }
 
 // A FixFix grid of num_env envelopes at one resolution.
+#[tactic(auto, unfolding(crate::specs::Build::fixfix_grid))]
 pub fn fixfix_grid(num_env: usize, high: bool) -> SbrGrid
     requires { num_env ≤ 5 }
     ensures { result ≡ record_of (fixfix_grid num_env high) }
 {
-    grid_of(
-        FrameClass::FixFix,
-        num_env,
-        high,
-        0,
-        0,
-        Lengths::none(),
-        Lengths::none(),
-        0,
-    )
+    grid_of(FrameClass::FixFix, num_env, high, 0, 0, &[], &[], 0)
 }
 
 // A VarVar grid at low resolution from the lead to `over` slots past the frame, with envelope l_a marked.
-pub fn varvar_grid(lead: u32, over: u32, rel_0: Lengths, rel_1: Lengths, l_a: usize) -> SbrGrid
-    requires { (lead ≤ 255) × (over ≤ 255) × (rel_0.count ≤ 4) × (rel_1.count ≤ 4) × (rel_0.count + rel_1.count ≤ 4) × (l_a ≤ rel_0.count + rel_1.count + 2) }
-    ensures { result ≡ record_of (varvar_grid lead over (length_list rel_0) (length_list rel_1) l_a) }
+#[tactic(auto, unfolding(crate::specs::Build::varvar_grid))]
+pub fn varvar_grid(lead: u8, over: u8, rel_0: &[u8], rel_1: &[u8], l_a: usize) -> SbrGrid
+    requires { (length rel_0.now + length rel_1.now ≤ 4) × (l_a ≤ length rel_0.now + length rel_1.now + 2) }
+    ensures { result ≡ record_of (varvar_grid lead over rel_0.now rel_1.now l_a) }
 {
-    let num_env = rel_0.count + rel_1.count + 1;
+    let num_env = rel_0.len() + rel_1.len() + 1;
     grid_of(
         FrameClass::VarVar,
         num_env,
@@ -164,59 +165,45 @@ pub fn varvar_grid(lead: u32, over: u32, rel_0: Lengths, rel_1: Lengths, l_a: us
         over,
         rel_0,
         rel_1,
-        num_env + 1 - l_a,
+        (num_env + 1 - l_a) as u8,
     )
 }
 
 // An even length, 2 to 8, for the first of `remaining` envelopes that share `left` slots.
-fn share(left: u32, remaining: u32) -> u32
+fn share(left: u8, remaining: u8) -> u8
     requires { 0 < remaining }
     ensures { (result ≡ even_share left remaining) × (2 ≤ result) × (result ≤ 8) }
 {
-    let each = left / remaining;
-    let len = if each < 2 {
-        2
-    } else if 8 < each {
-        8
-    } else {
-        each
-    };
-    len - len % 2
+    let each = (left / remaining).clamp(2, 8);
+    each - each % 2
 }
 
 // The lengths that num_env envelopes write down of `span` slots.
-fn shared(num_env: usize, span: u32) -> Lengths
+fn shared(num_env: usize, span: u8) -> Slots
     requires { (1 ≤ num_env) × (num_env ≤ 4) }
-    ensures { (result ≡ lengths_of (shares num_env span)) × (result.count < num_env) }
+    ensures { (result ≡ shares num_env span) × (length result < num_env) }
 {
-    let mut rel = Lengths::none();
+    let mut rel = Slots::new();
     let mut left = span;
-    for i in 1..num_env {
-        let len = share(left, (num_env - rel.count) as u32);
+    for remaining in (2..=num_env).rev() {
+        let len = share(left, remaining as u8);
         if left <= len {
             return rel;
         }
-        rel = rel.push(len);
+        rel.push(len);
         left -= len;
     }
     rel
 }
 
 // A VarFix grid from the lead, with num_env envelopes as even as the syntax allows, and no mark.
-pub fn varfix_plain(lead: u32, num_env: usize, nts: u32) -> SbrGrid
-    requires { (1 ≤ num_env) × (num_env ≤ 4) × FrameBounds nts lead }
-    ensures { result ≡ record_of (varfix_plain lead num_env nts) }
+#[tactic(auto, unfolding(crate::specs::Build::varfix_plain))]
+pub fn varfix_plain(num_env: usize, frame: Frame) -> SbrGrid
+    requires { (1 ≤ num_env) × (num_env ≤ 4) }
+    ensures { result ≡ record_of (varfix_plain frame.lead num_env frame.nts) }
 {
-    let rel = shared(num_env, nts - lead);
-    let l = rel.count + 1;
-    grid_of(
-        FrameClass::VarFix,
-        l,
-        l <= 2,
-        lead,
-        0,
-        rel,
-        Lengths::none(),
-        0,
-    )
+    let shared = shared(num_env, frame.nts - frame.lead);
+    let rel = shared.as_slice();
+    let l = rel.len() + 1;
+    grid_of(FrameClass::VarFix, l, l <= 2, frame.lead, 0, rel, &[], 0)
 }

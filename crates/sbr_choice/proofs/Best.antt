@@ -1,14 +1,14 @@
 -- The search answers the plan that comes first among all plans, and none exactly where there is no plan.
+use Rattle.std.specs.Prelude.{Ok, Err, Option, Some, None}
 use mathlib.Core.Path.{◌≡◌, refl, subst, sym}
 use Prim.Native.Nat.{ℕ, suc, ◌+◌, ◌-◌, ◌≤◌}
 use native.Mathlib.Omega.{arith}
 use mathlib.Core.Bool.{Bool, true, false, cond, ◌&&◌}
 use mathlib.Core.List.{List, [], ◌∷◌}
-use mathlib.Core.Option.{Option, none, some}
 use lib.Dec.{T, leb, ltb, eqb, leb→le, le→leb, eqb→eq}
 use lib.ListN.{length}
 use lib.Ieee.Fits.{and_i, and_l, and_r}
-use Rattle.sbr_grid.specs.Refusals.{Outcome, answered, refused}
+use Rattle.sbr_grid.specs.Refusals.{Outcome}
 use Rattle.sbr_grid.specs.Times.{Times}
 use Rattle.sbr_time_grid.specs.TimeGrid.{time_grid}
 use Rattle.sbr_borders.specs.declared.WantedBorder.{WantedBorder}
@@ -56,8 +56,8 @@ plans n lead ws b =
     && reaches lead (n + p.over) p.leading bs && eqb b.total (cost ws p)
 
 has_times : Outcome Times → Bool
-has_times (answered t) = true
-has_times (refused e) = false
+has_times (Ok t) = true
+has_times (Err e) = false
 
 -- of a plan q beside the best one: it does not come before, and has a time grid
 behind : ℕ → ℕ → List WantedBorder → ℕ → Plan → Bool
@@ -66,8 +66,8 @@ behind n lead ws r q = leb r (rank ws q) && has_times (time_grid n (plan_grid n 
 
 least : ℕ → ℕ → List WantedBorder → Option Best → Bool
 unfolding plans behind
-least n lead ws none = for_plans n lead ws (λ q. false)
-least n lead ws (some b) = plans n lead ws b && for_plans n lead ws (behind n lead ws (rank ws b.plan))
+least n lead ws None = for_plans n lead ws (λ q. false)
+least n lead ws (Some b) = plans n lead ws b && for_plans n lead ws (behind n lead ws (rank ws b.plan))
 
 kind : ℕ → ℕ → List WantedBorder → Bool
 unfolding least searched
@@ -193,10 +193,10 @@ plan_of_lem n lead ws b t =
       eqb→eq _ _ v.5,
     )
 
-timed : (o : Outcome Times) → T (has_times o) → (t : Times) × (o ≡ answered t)
+timed : (o : Outcome Times) → T (has_times o) → (t : Times) × (o ≡ Ok t)
 unfolding has_times
-timed (answered t) h = (t, refl)
-timed (refused e) h = absurd h
+timed (Ok t) h = (t, refl)
+timed (Err e) h = absurd h
 
 -- what the test says of one kind of wanted borders
 pub record Kind (n lead : ℕ) (ws : List WantedBorder) (o : Option Best) : Type 0 where
@@ -205,8 +205,8 @@ pub record Kind (n lead : ℕ) (ws : List WantedBorder) (o : Option Best) : Type
 
 kind_of_lem : (n lead : ℕ) (ws : List WantedBorder) (o : Option Best) → T (least n lead ws o) → Kind n lead ws o
 unfolding least behind
-kind_of_lem n lead ws none t = record { answers = λ q h. at_plans n lead ws (λ q. false) t q h; times = λ q h. absurd (at_plans n lead ws (λ q. false) t q h) }
-kind_of_lem n lead ws (some b) t =
+kind_of_lem n lead ws None t = record { answers = λ q h. at_plans n lead ws (λ q. false) t q h; times = λ q h. absurd (at_plans n lead ws (λ q. false) t q h) }
+kind_of_lem n lead ws (Some b) t =
     let f = behind n lead ws (rank ws b.plan) in
     let u = for_plans n lead ws f in
     let p = plan_of_lem n lead ws b (and_l (plans n lead ws b) u t) in
@@ -230,18 +230,18 @@ search_is_least n lead os c =
 
 -- ---- none exactly where neither kind has a plan
 
-no_plan : (n lead : ℕ) (ws : List WantedBorder) (o : Option Best) → Answers n lead ws o → ((q : Plan) → IsPlan n lead ws q → ⊥) → o ≡ none
-no_plan n lead ws none a h = refl
-no_plan n lead ws (some b) a h = absurd (h b.plan a.plan)
+no_plan : (n lead : ℕ) (ws : List WantedBorder) (o : Option Best) → Answers n lead ws o → ((q : Plan) → IsPlan n lead ws q → ⊥) → o ≡ None
+no_plan n lead ws None a h = refl
+no_plan n lead ws (Some b) a h = absurd (h b.plan a.plan)
 
 none_from : (n lead : ℕ) (os : List ℕ) (i p : Option Best) → Answers n lead (isolated os) i → Answers n lead (bare os) p
-    → cond (plain_wins i p) (planned n lead (bare os) p) (planned n lead (isolated os) i) ≡ none → Neither n lead os
-none_from n lead os none none a b e = record { isolating = a; plain = b }
-none_from n lead os none (some p) a b e = let z : ◌≡◌ {A = ℕ} 0 1 = cc in absurd (omega arith)
-none_from n lead os (some i) none a b e = let z : ◌≡◌ {A = ℕ} 0 1 = cc in absurd (omega arith)
-none_from n lead os (some i) (some p) a b e = wins (ltb (p.total + 2) i.total) e
+    → cond (plain_wins i p) (planned n lead (bare os) p) (planned n lead (isolated os) i) ≡ None → Neither n lead os
+none_from n lead os None None a b e = record { isolating = a; plain = b }
+none_from n lead os None (Some p) a b e = let z : ◌≡◌ {A = ℕ} 0 1 = cc in absurd (omega arith)
+none_from n lead os (Some i) None a b e = let z : ◌≡◌ {A = ℕ} 0 1 = cc in absurd (omega arith)
+none_from n lead os (Some i) (Some p) a b e = wins (ltb (p.total + 2) i.total) e
   where
-    wins : (w : Bool) → cond w (planned n lead (bare os) (some p)) (planned n lead (isolated os) (some i)) ≡ none → Neither n lead os
+    wins : (w : Bool) → cond w (planned n lead (bare os) (Some p)) (planned n lead (isolated os) (Some i)) ≡ None → Neither n lead os
     wins true e = let z : ◌≡◌ {A = ℕ} 0 1 = cc in absurd (omega arith)
     wins false e = let z : ◌≡◌ {A = ℕ} 0 1 = cc in absurd (omega arith)
 

@@ -1,4 +1,5 @@
 -- A test at every admitted case, and what it says of each.
+use Rattle.std.specs.Prelude.{Ok, Err}
 use mathlib.Core.Path.{◌≡◌, refl, subst}
 use Prim.Native.Nat.{ℕ, zero, suc, ◌+◌, ◌-◌, ◌≤◌, ◌<◌}
 use native.Mathlib.Nat.{eq-or-lt_of_le}
@@ -10,7 +11,7 @@ use lib.Dec.{T, leb, eqb, leb→le, eqb→eq, T_not}
 use lib.Ieee.Fits.{and_l, and_r, eq→eqb}
 use lib.IntN.{ℤ, pos, negsuc}
 use lib.ListN.{get_or}
-use Rattle.sbr_grid.specs.Refusals.{Outcome, answered, refused}
+use Rattle.sbr_grid.specs.Refusals.{Outcome}
 use Rattle.sbr_grid.specs.Grid.{Grid, num_env_of}
 use Rattle.sbr_grid.specs.Times.{Times}
 use Rattle.sbr_time_grid.specs.TimeGrid.{time_grid}
@@ -93,8 +94,8 @@ unlike (negsuc k) l = true
 
 fits : ℕ → ℕ → ℕ → Outcome Times → Bool
 unfolding unlike
-fits n lead l (refused e) = false
-fits n lead l (answered t) =
+fits n lead l (Err e) = false
+fits n lead l (Ok t) =
     eqb (get_or t.t_e 0 0) lead && leb n (get_or t.t_e l 0) && leb (get_or t.t_e l 0) (n + 3) && unlike t.l_a l
 
 good : Bool → Bool → ℕ → ℕ → List ℕ → Bool
@@ -118,8 +119,8 @@ differs (negsuc k) l t e = let z : ◌≡◌ {A = ℕ} 0 1 = cc in absurd (omega
 
 sound : (n lead : ℕ) (g : Grid) (o : Outcome Times) → time_grid n g ≡ o → T (fits n lead (num_env_of g) o) → Sound n lead g
 unfolding fits
-sound n lead g (refused e) q t = absurd t
-sound n lead g (answered tm) q t =
+sound n lead g (Err e) q t = absurd t
+sound n lead g (Ok tm) q t =
     let l = get_or tm.t_e (num_env_of g) 0 in
     let p = four_of (eqb (get_or tm.t_e 0 0) lead) (leb n l) (leb l (n + 3)) (unlike tm.l_a (num_env_of g)) t in
     record { time = tm; derived = q; starts = eqb→eq _ _ p.0; ends_from = leb→le _ _ p.1; ends_by = leb→le _ _ p.2; unlike = differs tm.l_a (num_env_of g) p.3 }

@@ -1,6 +1,5 @@
 -- The grid of a frame whose onsets are known: the choice in `elect_grid` of src/sbr_encoder.rs, its builders tried in order.
-use Rattle.std.specs.Prelude.{Bool, true, false, cond, List, [], ◌∷◌, ℕ, leb, eqb, length}
-use Rattle.std.proofs.Math.Option.{Option, none, some}
+use Rattle.std.specs.Prelude.{Bool, true, false, cond, List, [], ◌∷◌, ℕ, leb, eqb, length, Option, Some, None}
 use Rattle.sbr_grid.specs.Grid.{Grid}
 use Rattle.sbr_build.specs.Build.{fixfix_grid, varfix_plain}
 use Rattle.sbr_attack.specs.Attack.{late_attack_varvar, double_attack_grid, variable_grid}
@@ -8,17 +7,17 @@ use Rattle.sbr_search.specs.Search.{multi_onset_grid}
 
 -- a grid, or the next kind where there is none
 abbrev pub or_grid : Option Grid → Grid → Grid
-or_grid none d = d
-or_grid (some g) d = g
+or_grid None d = d
+or_grid (Some g) d = g
 
 -- the search, for k onsets or more
 abbrev pub solver : ℕ → List ℕ → ℕ → ℕ → Option Grid
-solver k os lead n = cond (leb k (length os)) (multi_onset_grid os lead n) none
+solver k os lead n = cond (leb k (length os)) (multi_onset_grid os lead n) None
 
 -- the double grid of the first two onsets
 abbrev pub double_first : List ℕ → ℕ → ℕ → Option Grid
-double_first [] lead n = none
-double_first (s ∷ []) lead n = none
+double_first [] lead n = None
+double_first (s ∷ []) lead n = None
 double_first (s ∷ s2 ∷ os) lead n = double_attack_grid s s2 lead n
 
 -- variable borders: s is the first onset of os

@@ -1,6 +1,6 @@
 -- What holds of every grid that is chosen for onsets, and the marked cases: the statements. Proved in proofs/Every.antt and proofs/Cases.antt.
-use Rattle.std.specs.Prelude.{◌≡◌, Bool, true, false, List, [], ◌∷◌, map, ℕ, ◌+◌, ◌≤◌, ℤ, pos, negsuc, get_or}
-use Rattle.sbr_grid.specs.Refusals.{Outcome, answered, refused}
+use Rattle.std.specs.Prelude.{◌≡◌, Bool, true, false, List, [], ◌∷◌, map, ℕ, ◌+◌, ◌≤◌, ℤ, pos, negsuc, get_or, Ok, Err}
+use Rattle.sbr_grid.specs.Refusals.{Outcome}
 use Rattle.sbr_grid.specs.Grid.{Grid, num_env_of}
 use Rattle.sbr_grid.specs.Times.{Times}
 use Rattle.sbr_time_grid.specs.TimeGrid.{time_grid}
@@ -10,7 +10,7 @@ use Rattle.sbr_choice.specs.Choice.{chosen_grid}
 -- a grid with a time grid, from the lead to 0 to 3 slots past the frame, whose mark is not the envelope count
 pub record Sound (n lead : ℕ) (g : Grid) : Type 0 where
   pub time : Times
-  pub derived : time_grid n g ≡ answered time
+  pub derived : time_grid n g ≡ Ok time
   pub starts : get_or time.t_e 0 0 ≡ lead
   pub ends_from : n ≤ get_or time.t_e (num_env_of g) 0
   pub ends_by : get_or time.t_e (num_env_of g) 0 ≤ n + 3
@@ -62,12 +62,12 @@ marked s os =
     ∷ []
 
 abbrev pub shown : Outcome Times → Outcome Borders
-shown (answered t) = answered (record { borders = t.t_e; mark = t.l_a })
-shown (refused e) = refused e
+shown (Ok t) = Ok (record { borders = t.t_e; mark = t.l_a })
+shown (Err e) = Err e
 
 -- borders and mark of the chosen grid
 abbrev pub found : Marked → Outcome Borders
 found m = shown (time_grid m.slots (chosen_grid m.variable m.even m.onsets m.lead m.slots))
 
 abbrev pub MarkedCases : Type 0
-MarkedCases = (s : ℕ) (os : List ℕ) → map found (marked s os) ≡ map (λ m. answered m.wanted) (marked s os)
+MarkedCases = (s : ℕ) (os : List ℕ) → map found (marked s os) ≡ map (λ m. Ok m.wanted) (marked s os)

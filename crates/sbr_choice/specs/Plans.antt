@@ -1,8 +1,6 @@
 -- What a plan of the border search is, without the search (docs/ORDER.md, BS), and the statement that the search answers the
 -- first of all plans. Proved in proofs/Best.antt.
-use Rattle.std.specs.Prelude.{◌≡◌, true, List, [], ◌∷◌, ℕ, ◌+◌, ◌*◌, ◌≤◌, ◌<◌}
-use Rattle.std.proofs.Math.Option.{Option, none, some}
-use Rattle.sbr_grid.specs.Refusals.{answered}
+use Rattle.std.specs.Prelude.{◌≡◌, true, List, [], ◌∷◌, ℕ, ◌+◌, ◌*◌, ◌≤◌, ◌<◌, Ok, Option, Some, None}
 use Rattle.sbr_grid.specs.Times.{Times}
 use Rattle.sbr_time_grid.specs.TimeGrid.{time_grid}
 use Rattle.sbr_build.specs.Cases.{Case}
@@ -45,13 +43,13 @@ pub record Least (n lead : ℕ) (ws : List WantedBorder) (b : Best) : Type 0 whe
   pub least : (q : Plan) → IsPlan n lead ws q → rank ws b.plan ≤ rank ws q
 
 abbrev pub Answers : ℕ → ℕ → List WantedBorder → Option Best → Type 0
-Answers n lead ws none = (q : Plan) → IsPlan n lead ws q → ⊥
-Answers n lead ws (some b) = Least n lead ws b
+Answers n lead ws None = (q : Plan) → IsPlan n lead ws q → ⊥
+Answers n lead ws (Some b) = Least n lead ws b
 
 -- every plan's grid has a time grid: the Rust tests that and we need not
 abbrev pub PlansHaveTimes : ℕ → ℕ → List WantedBorder → Type 0
 PlansHaveTimes n lead ws =
-    (q : Plan) → IsPlan n lead ws q → (t : Times) × (time_grid n (plan_grid n lead ws q) ≡ answered t)
+    (q : Plan) → IsPlan n lead ws q → (t : Times) × (time_grid n (plan_grid n lead ws q) ≡ Ok t)
 
 -- both kinds of search answer the least plan of their kind, or none exactly where there is none
 pub record Searched (n lead : ℕ) (os : List ℕ) : Type 0 where
@@ -72,4 +70,4 @@ pub record Neither (n lead : ℕ) (os : List ℕ) : Type 0 where
 abbrev pub NoneExactly : Type 0
 NoneExactly =
     (n lead s : ℕ) (rest : List ℕ) → let os = s ∷ rest in Case n lead os
-    → ((multi_onset_grid os lead n ≡ none → Neither n lead os) × (Neither n lead os → multi_onset_grid os lead n ≡ none))
+    → ((multi_onset_grid os lead n ≡ None → Neither n lead os) × (Neither n lead os → multi_onset_grid os lead n ≡ None))

@@ -13,7 +13,8 @@ use lib.Ieee as Ieee
 use lib.Ieee.{Float, nan, binary64}
 use Rattle.sbr_qmf.specs.Qmf.{SampleAt}
 use Rattle.sbr_floats.specs.Floats.{total, zero64}
-use Rattle.sbr_energy.specs.Energy.{band_sum, slot_energy, list_of, slot_energies}
+use Rattle.sbr_energy.specs.declared.Start.{Start}
+use Rattle.sbr_energy.specs.Energy.{sum_from, slot_start, next_start, slot_energy, list_of, slot_energies}
 
 -- nothing is summed yet
 pub total_none : (f : ℕ → Float) → zero64 ≡ total f 0
@@ -25,10 +26,12 @@ pub total_more : (f : ℕ → Float) (n : ℕ) (sum v : Float) → sum ≡ total
 unfolding total
 total_more f n sum v p q = rw (add-one n, p, q)
 
--- a slot's energy out of the sums of its two columns
-pub slot_is : (x : SampleAt) (kl kh s u v : ℕ) (a b : Float) → u ≡ 2 * s + 2 → v ≡ 2 * s + 3 → a ≡ band_sum x kl kh u → b ≡ band_sum x kl kh v
+-- a slot's energy out of the sums of its two columns, from the places p and q on
+pub slot_is : (x : SampleAt) (kl kh s : ℕ) (p q : Start) (a b : Float) → p ≡ slot_start s kl → q ≡ next_start p → a ≡ sum_from x (kh - kl) p → b ≡ sum_from x (kh - kl) q
     → Ieee.add binary64 (Ieee.add binary64 zero64 a) b ≡ slot_energy x kl kh s
-slot_is x kl kh s u v a b d e p q = rw (p, q, d, e)
+slot_is x kl kh s p q a b d e f g =
+    let h : 2 * s + 2 + 1 ≡ 2 * s + 3 = omega arith in
+    rw (f, g, e, d, h)
 
 -- a list of n numbers is n long
 pub list_length : (f : ℕ → Float) (n : ℕ) → length (list_of f n) ≡ n

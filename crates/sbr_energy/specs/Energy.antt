@@ -1,13 +1,29 @@
 -- Energies of slots and of bands, in the order of additions of the Rust's `elect_grid`, `elect_freq_res` and `estimate_envelopes`.
-use Rattle.std.specs.Prelude.{List, [], ◌++◌, ◌∷◌, ℕ, zero, suc, ◌+◌, ◌-◌, ◌*◌, replicate, Float}
+use Rattle.std.specs.Prelude.{List, [], ◌++◌, ◌∷◌, ℕ, zero, suc, ◌+◌, ◌-◌, ◌*◌, ◌≤◌, length, replicate, Float}
 use Rattle.std.specs.Float.Ieee as Ieee
 use Rattle.std.specs.Float.{binary64}
 use Rattle.sbr_qmf.specs.Qmf.{SampleAt, norm_sqr}
 use Rattle.sbr_floats.specs.Floats.{zero64, total, mean_of}
+use Rattle.sbr_energy.specs.declared.Start.{Start}
 
 -- the bands kl up to, not including, kh of column c, lowest first
 abbrev pub band_sum : SampleAt → ℕ → ℕ → ℕ → Float
 band_sum x kl kh c = total (λ i. norm_sqr (x c (kl + i))) (kh - kl)
+
+-- w bands from a place on: there are samples for them, and their sum
+pub record HasBands (x : List Float) (w : ℕ) (start : Start) : Type 0 where
+  pub bands : start.band + w ≤ 64
+  pub columns : (start.column + 1) * 128 ≤ length x
+
+abbrev pub sum_from : SampleAt → ℕ → Start → Float
+sum_from x w start = total (λ i. norm_sqr (x start.column (start.band + i))) w
+
+-- band k of the first column of slot s; the same band of the column behind
+abbrev pub slot_start : ℕ → ℕ → Start
+slot_start s k = record { column = 2 * s + 2; band = k }
+
+abbrev pub next_start : Start → Start
+next_start start = record { column = start.column + 1; band = start.band }
 
 -- slot s: the columns 2 s + 2 and 2 s + 3
 abbrev pub slot_energy : SampleAt → ℕ → ℕ → ℕ → Float

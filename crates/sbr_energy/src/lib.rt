@@ -1,13 +1,44 @@
 // Energies of samples: src/sbr_encoder.rs.
 #![tactic(auto)]
 
-ghost use Rattle.std.specs.Prelude.{◌≡◌, ◌+◌, ◌*◌, ◌≤◌, length};
+ghost use Rattle.std.specs.Prelude.{◌≡◌, ◌+◌, ◌*◌, ◌≤◌, ◌<◌, ◌^◌, length};
 ghost use Rattle.sbr_qmf.specs.Qmf.{columns};
-ghost use Rattle.sbr_energy.specs.Energy.{band_sum, slot_energies};
+ghost use Rattle.sbr_energy.specs.Energy.{sum_from, HasBands, slot_start, next_start, slot_energies};
 
 mod samples;
 
-// The sums of the columns c, d, e and f.
+// Where bands that are summed begin: a column, and a band of it.
+#[derive(Clone, Copy)]
+pub struct Start {
+    pub column: usize,
+    pub band: usize,
+}
+
+impl Start {
+    // Band k of the first column of slot s.
+    pub fn of_slot(s: usize, k: usize) -> Self
+        requires { s < 2 ^ 32 }
+        ensures { result ≡ slot_start s k }
+    {
+        Start {
+            column: 2 * s + 2,
+            band: k,
+        }
+    }
+
+    // The same band of the column behind.
+    pub fn next(self) -> Self
+        requires { self.column < 2 ^ 32 }
+        ensures { result ≡ next_start self }
+    {
+        Start {
+            column: self.column + 1,
+            band: self.band,
+        }
+    }
+}
+
+// The sums of four runs of bands.
 #[derive(Clone, Copy)]
 pub struct Sums {
     pub c: f64,
@@ -16,37 +47,30 @@ pub struct Sums {
     pub f: f64,
 }
 
-// The sums of w bands of four columns side by side: from band k on of the columns c and d, from band m on of e and f.
-pub fn band_sums(
-    x: &[f64],
-    w: usize,
-    k: usize,
-    c: usize,
-    d: usize,
-    m: usize,
-    e: usize,
-    f: usize,
-) -> Sums
-    requires { (k + w ≤ 64) × (m + w ≤ 64) × ((c + 1) * 128 ≤ length x.now) × ((d + 1) * 128 ≤ length x.now) × ((e + 1) * 128 ≤ length x.now) × ((f + 1) * 128 ≤ length x.now) }
-    ensures c_value { (result.c ≡ band_sum (columns x.now) k (k + w) c) × (result.d ≡ band_sum (columns x.now) k (k + w) d) }
-    ensures e_value { (result.e ≡ band_sum (columns x.now) m (m + w) e) × (result.f ≡ band_sum (columns x.now) m (m + w) f) }
+// The sums of w bands from each of four places on, side by side, each in its own order: so they step through the four by one index.
+pub fn band_sums(x: &[f64], w: usize, c: Start, d: Start, e: Start, f: Start) -> Sums
+    requires in_c { HasBands x.now w c }
+    requires in_d { HasBands x.now w d }
+    requires in_e { HasBands x.now w e }
+    requires in_f { HasBands x.now w f }
+    ensures c_value { result.c ≡ sum_from (columns x.now) w c }
+    ensures d_value { result.d ≡ sum_from (columns x.now) w d }
+    ensures e_value { result.e ≡ sum_from (columns x.now) w e }
+    ensures f_value { result.f ≡ sum_from (columns x.now) w f }
 {
-    let mut a = 0.0;
-    let mut b = 0.0;
-    let mut s = 0.0;
-    let mut t = 0.0;
+    let mut sums = Sums {
+        c: 0.0,
+        d: 0.0,
+        e: 0.0,
+        f: 0.0,
+    };
     for i in 0..w {
-        a = a + samples::energy(x, c, k + i);
-        b = b + samples::energy(x, d, k + i);
-        s = s + samples::energy(x, e, m + i);
-        t = t + samples::energy(x, f, m + i);
+        sums.c += samples::energy(x, c.column, c.band + i);
+        sums.d += samples::energy(x, d.column, d.band + i);
+        sums.e += samples::energy(x, e.column, e.band + i);
+        sums.f += samples::energy(x, f.column, f.band + i);
     }
-    Sums {
-        c: a,
-        d: b,
-        e: s,
-        f: t,
-    }
+    sums
 }
 
 // A quarter of the most slots.
@@ -60,11 +84,13 @@ pub fn slot_energies(x: &[f64], n: usize, kl: usize, kh: usize) -> [f64; 24]
 {
     let mut out = [0.0; 24];
     for s in 0..QUARTER {
-        let c = 2 * s + 2;
         let l = s + n - QUARTER;
-        let f = 2 * l + 2;
-        let first = band_sums(x, kh - kl, kl, c, c + 12, kl, c + 24, f);
-        let second = band_sums(x, kh - kl, kl, c + 1, c + 13, kl, c + 25, f + 1);
+        let c = Start::of_slot(s, kl);
+        let d = Start::of_slot(s + 6, kl);
+        let e = Start::of_slot(s + 12, kl);
+        let f = Start::of_slot(l, kl);
+        let first = band_sums(x, kh - kl, c, d, e, f);
+        let second = band_sums(x, kh - kl, c.next(), d.next(), e.next(), f.next());
         out[s] = 0.0 + first.c + second.c;
         out[s + 6] = 0.0 + first.d + second.d;
         out[s + 12] = 0.0 + first.e + second.e;

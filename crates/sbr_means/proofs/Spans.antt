@@ -1,29 +1,29 @@
 -- Laws of the spans of a list, and of the bands of a table.
-use mathlib.Core.Path.{◌≡◌, refl, ap}
+use mathlib.Core.Path.{◌≡◌, refl, ap, ◌∙◌}
 use mathlib.Core.List.{List, [], ◌∷◌, ◌++◌, map}
 use Prim.Native.Nat.{ℕ, zero, suc, ◌+◌, ◌-◌, ◌≤◌, ◌<◌}
 use native.Mathlib.Nat.{add-zero, zero-add, suc-add}
 use native.Mathlib.Omega.{arith}
-use lib.ListN.{length, get_or}
-use Rattle.sbr_grid.specs.Grid.{first}
-use Rattle.sbr_grid.proofs.First.{first-length, first-get_or}
+use lib.Seq.{get_or-take, get_or-drop}
+use lib.ListN.{length, get_or, take, drop, length-take, length-drop}
 use Rattle.sbr_bands.specs.Tables.{entry, Span, spans_from, spans}
 use Rattle.sbr_means.specs.Means.{Bands}
 use Rattle.sbr_bands.proofs.TableLaws.{Table}
 
--- k bands of a table that climbs
-pub table_bands : (t : List ℕ) (n i k : ℕ) → Table t n → i + k < length t → Bands t i k
-table_bands t n i k b h = record {
-  within = h;
-  climbing = λ j l. omega (arith, b.step (i + j) (omega arith));
-  by64 = λ j l. b.by64 (i + j) (omega arith);
-}
+-- an entry of a part of a list
+part_at : (xs : List ℕ) (i n j : ℕ) → j < n → entry (take n (drop i xs)) j ≡ entry xs (i + j)
+part_at xs i n j h = get_or-take n (drop i xs) j 0 h ∙ get_or-drop i xs j 0
 
--- an entry of the bands is at most 64
-pub entry_by64 : (table : List ℕ) (i k n : ℕ) → Bands table i k → i ≤ n → n ≤ i + k → entry table n ≤ 64
-entry_by64 table i k n b h l =
-    let e : i + (n - i) ≡ n = omega arith in
-    rw e at (b.by64 (n - i) (omega arith))
+-- entries i to i + k of a table that climbs
+pub table_bands : (t : List ℕ) (n i k : ℕ) → Table t n → i + k < length t → Bands (take (k + 1) (drop i t))
+table_bands t n i k b h =
+    let long : length (take (k + 1) (drop i t)) ≡ k + 1 = omega (arith, length-take (k + 1) (drop i t), length-drop i t) in
+    record {
+      climbing = λ j l.
+          let e : i + (j + 1) ≡ i + j + 1 = omega arith in
+          rw (part_at t i (k + 1) j (omega arith), part_at t i (k + 1) (j + 1) (omega arith), e) (omega (arith, b.step (i + j) (omega arith)));
+      by64 = λ j l. rw (part_at t i (k + 1) j (omega arith)) (b.by64 (i + j) (omega arith));
+    }
 
 -- k spans are k
 pub spans-length : (xs : List ℕ) (i k : ℕ) → length (spans_from xs i k) ≡ k
@@ -70,18 +70,25 @@ pub mapped_more : {A : Type 0} (f : Span → A) (xs : List ℕ) (k : ℕ)
     → map f (spans_from xs 0 (k + 1)) ≡ map f (spans_from xs 0 k) ++ (f (record { from = entry xs k; to = entry xs (k + 1) }) ∷ [])
 mapped_more f xs k = rw (spans_more xs k) (map-end f (spans_from xs 0 k) _)
 
--- the spans look at their entries alone
+-- the spans look at their entries alone, wherever they stand
+spans_moved : (xs ys : List ℕ) (i m k : ℕ) → ((j : ℕ) → j ≤ k → entry xs (i + j) ≡ entry ys (m + j)) → spans_from xs i k ≡ spans_from ys m k
+unfolding spans_from
+spans_moved xs ys i m zero e = refl
+spans_moved xs ys i m (suc k) e =
+    let f : entry xs i ≡ entry ys m = rw (add-zero i, add-zero m) at (e 0 (omega arith)) in
+    rw (f, e 1 (omega arith), spans_moved xs ys (suc i) (suc m) k (λ j l. moved i m j (e (j + 1) (omega arith))))
+  where
+    moved : (i m j : ℕ) → entry xs (i + (j + 1)) ≡ entry ys (m + (j + 1)) → entry xs (suc i + j) ≡ entry ys (suc m + j)
+    moved i m j e =
+        let p : suc i + j ≡ i + (j + 1) = omega arith in
+        let q : suc m + j ≡ m + (j + 1) = omega arith in
+        rw (p, q) e
+
 pub spans-same : (xs ys : List ℕ) (i k : ℕ) → ((j : ℕ) → i ≤ j → j ≤ i + k → entry xs j ≡ entry ys j) → spans_from xs i k ≡ spans_from ys i k
 unfolding spans_from
 spans-same xs ys i zero e = refl
 spans-same xs ys i (suc k) e =
     rw (e i (omega arith) (omega arith), e (i + 1) (omega arith) (omega arith), spans-same xs ys (suc i) k (λ j h l. e j (omega arith) (omega arith)))
-
--- the spans between the first n + 1 of a list
-pub spans-first : (xs : List ℕ) (n : ℕ) → spans (first 0 (n + 1) xs) ≡ spans_from xs 0 n
-spans-first xs n =
-    let e : length (first 0 (n + 1) xs) - 1 ≡ n = omega (arith, first-length 0 (n + 1) xs) in
-    rw e (spans-same (first 0 (n + 1) xs) xs 0 n (λ j h l. first-get_or 0 (n + 1) j xs (omega arith)))
 
 -- numbers that are the same for each span
 pub mapped_same : {A : Type 0} (f g : Span → A) (xs : List ℕ) (i k : ℕ)
@@ -90,3 +97,9 @@ pub mapped_same : {A : Type 0} (f g : Span → A) (xs : List ℕ) (i k : ℕ)
 unfolding spans_from
 mapped_same f g xs i zero e = refl
 mapped_same f g xs i (suc k) e = rw (e i (omega arith) (omega arith), mapped_same f g xs (suc i) k (λ j h l. e j (omega arith) (omega arith)))
+
+-- the spans of a part of a list
+pub spans-part : (xs : List ℕ) (i k : ℕ) → i + k < length xs → spans (take (k + 1) (drop i xs)) ≡ spans_from xs i k
+spans-part xs i k h =
+    let e : length (take (k + 1) (drop i xs)) - 1 ≡ k = omega (arith, length-take (k + 1) (drop i xs), length-drop i xs) in
+    rw e (spans_moved (take (k + 1) (drop i xs)) xs 0 i k (λ j l. rw zero-add (part_at xs i (k + 1) j (omega arith))))

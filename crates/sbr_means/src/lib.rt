@@ -1,11 +1,22 @@
 // Means of bands over the slots of an envelope: src/sbr_encoder.rs.
 #![tactic(auto)]
 
-ghost use Rattle.std.specs.Prelude.{◌≡◌, ◌++◌, map, ◌+◌, ◌*◌, ◌≤◌, length, take, drop};
+ghost use Rattle.std.specs.Prelude.{◌≡◌, map, ◌+◌, ◌≤◌, length};
 ghost use Rattle.sbr_qmf.specs.Qmf.{columns};
 ghost use Rattle.sbr_energy.specs.Energy.{band_total};
-ghost use Rattle.sbr_bands.specs.Tables.{spans_from};
-ghost use Rattle.sbr_means.specs.Means.{Bands, mean_in};
+ghost use Rattle.sbr_bands.specs.Tables.{spans};
+ghost use Rattle.sbr_means.specs.Means.{Bands, Sampled, mean_in};
+
+use sbr_energy::Start;
+
+// The samples of a frame, and the slots of an envelope: those from `from` up to, not including, `to`.
+#[derive(Clone, Copy)]
+pub struct Envelope<'a> {
+    pub x: &'a [f64],
+    pub from: usize,
+    pub to: usize,
+    ghost sampled: { Sampled x.now from to },
+}
 
 // The sums of two bands.
 #[derive(Clone, Copy)]
@@ -14,89 +25,80 @@ struct Pair {
     b: f64,
 }
 
-// The sums of two neighbouring bands of w each, from band k on, over the slots t0 to t1: side by side, each in its own order.
-fn pair_sums(x: &[f64], k: usize, w: usize, t0: usize, t1: usize) -> Pair
-    requires { (k + w + w ≤ 64) × (t0 ≤ t1) × (t1 ≤ 24) × ((2 * t1 + 2) * 128 ≤ length x.now) }
-    ensures a_value { result.a ≡ band_total (columns x.now) t0 t1 k (k + w) }
-    ensures b_value { result.b ≡ band_total (columns x.now) t0 t1 (k + w) (k + w + w) }
-{
-    let mut a = 0.0;
-    let mut b = 0.0;
-    for t in t0..t1 {
-        let c = 2 * t + 2;
-        let sums = sbr_energy::band_sums(x, w, k, c, c + 1, k + w, c, c + 1);
-        a = a + sums.c + sums.d;
-        b = b + sums.e + sums.f;
+impl<'a> Envelope<'a> {
+    // The sums of two neighbouring bands of w each, from band k on: side by side, each in its own order.
+    fn pair_sums(self, k: usize, w: usize) -> Pair
+        requires { k + w + w ≤ 64 }
+        ensures a_value { result.a ≡ band_total (columns self.entry.x.now) self.entry.from self.entry.to k (k + w) }
+        ensures b_value { result.b ≡ band_total (columns self.entry.x.now) self.entry.from self.entry.to (k + w) (k + w + w) }
+    {
+        let mut pair = Pair { a: 0.0, b: 0.0 };
+        for t in self.from..self.to {
+            let low = Start::of_slot(t, k);
+            let high = Start::of_slot(t, k + w);
+            let sums = sbr_energy::band_sums(self.x, w, low, low.next(), high, high.next());
+            pair.a = pair.a + sums.c + sums.d;
+            pair.b = pair.b + sums.e + sums.f;
+        }
+        pair
     }
-    Pair { a: a, b: b }
-}
 
-// The same; the commonest widths stand as numbers, so that the loop over the slots has none inside it.
-fn pair_of(x: &[f64], k: usize, w: usize, t0: usize, t1: usize) -> Pair
-    requires { (k + w + w ≤ 64) × (t0 ≤ t1) × (t1 ≤ 24) × ((2 * t1 + 2) * 128 ≤ length x.now) }
-    ensures a_value { result.a ≡ band_total (columns x.now) t0 t1 k (k + w) }
-    ensures b_value { result.b ≡ band_total (columns x.now) t0 t1 (k + w) (k + w + w) }
-{
-    if w == 1 {
-        return pair_sums(x, k, 1, t0, t1);
+    // The same; the commonest widths stand as numbers, so that the loop over the slots has none inside it.
+    fn pair_of(self, k: usize, w: usize) -> Pair
+        requires { k + w + w ≤ 64 }
+        ensures a_value { result.a ≡ band_total (columns self.entry.x.now) self.entry.from self.entry.to k (k + w) }
+        ensures b_value { result.b ≡ band_total (columns self.entry.x.now) self.entry.from self.entry.to (k + w) (k + w + w) }
+    {
+        match w {
+            1 => self.pair_sums(k, 1),
+            2 => self.pair_sums(k, 2),
+            4 => self.pair_sums(k, 4),
+            _ => self.pair_sums(k, w),
+        }
     }
-    if w == 2 {
-        return pair_sums(x, k, 2, t0, t1);
-    }
-    if w == 4 {
-        return pair_sums(x, k, 4, t0, t1);
-    }
-    pair_sums(x, k, w, t0, t1)
-}
 
-// The sum of w bands from band k on over the slots t0 to t1, two slots at a time.
-fn band_sum(x: &[f64], k: usize, w: usize, t0: usize, t1: usize) -> f64
-    requires { (k + w ≤ 64) × (t0 ≤ t1) × (t1 ≤ 24) × ((2 * t1 + 2) * 128 ≤ length x.now) }
-    ensures { result ≡ band_total (columns x.now) t0 t1 k (k + w) }
-{
-    let mut sum = 0.0;
-    let mut t = t0;
-    while t + 1 < t1 {
-        let c = 2 * t + 2;
-        let sums = sbr_energy::band_sums(x, w, k, c, c + 1, k, c + 2, c + 3);
-        sum = sum + sums.c + sums.d + sums.e + sums.f;
-        t += 2;
+    // The sum of w bands from band k on, two slots at a time.
+    fn band_sum(self, k: usize, w: usize) -> f64
+        requires { k + w ≤ 64 }
+        ensures { result ≡ band_total (columns self.entry.x.now) self.entry.from self.entry.to k (k + w) }
+    {
+        let slots = self.to - self.from;
+        let mut sum = 0.0;
+        for i in 0..slots / 2 {
+            let c = Start::of_slot(self.from + 2 * i, k);
+            let e = Start::of_slot(self.from + 2 * i + 1, k);
+            let sums = sbr_energy::band_sums(self.x, w, c, c.next(), e, e.next());
+            sum = sum + sums.c + sums.d + sums.e + sums.f;
+        }
+        if slots % 2 == 1 {
+            let c = Start::of_slot(self.to - 1, k);
+            let sums = sbr_energy::band_sums(self.x, w, c, c.next(), c, c.next());
+            sum = sum + sums.c + sums.d;
+        }
+        sum
     }
-    if t < t1 {
-        let c = 2 * t + 2;
-        let sums = sbr_energy::band_sums(x, w, k, c, c + 1, k, c, c + 1);
-        sum = sum + sums.c + sums.d;
-    }
-    sum
-}
 
-// The means of k bands of a table from entry i on, over the slots t0 to t1, from place `at` on: neighbours of one width side by side.
-pub fn band_means(
-    x: &[f64],
-    table: &[u8],
-    i: usize,
-    k: usize,
-    t0: usize,
-    t1: usize,
-    at: usize,
-    out: &mut [f64],
-)
-    requires { Bands table.now i k × (at + k ≤ length out.old) × (t0 ≤ t1) × (t1 ≤ 24) × ((2 * t1 + 2) * 128 ≤ length x.now) }
-    ensures { out.new ≡ take at out.old ++ (map (mean_in (columns x.now) (record { from = t0; to = t1 })) (spans_from table.now i k) ++ drop (at + k) out.old) }
-{
-    let mut j = 0;
-    while j < k {
-        let kl = table[i + j] as usize;
-        let w = table[i + j + 1] as usize - kl;
-        let count = (2 * (t1 - t0) * w) as u32;
-        if j + 1 < k && table[i + j + 2] as usize == kl + w + w {
-            let sums = pair_of(x, kl, w, t0, t1);
-            out[at + j] = sbr_floats::mean(sums.a, count);
-            out[at + j + 1] = sbr_floats::mean(sums.b, count);
-            j += 2;
-        } else {
-            out[at + j] = sbr_floats::mean(band_sum(x, kl, w, t0, t1), count);
-            j += 1;
+    // The mean of each band of a table: neighbours of one width side by side, so that a step is one band or two.
+    pub fn band_means(self, bands: &[u8], out: &mut [f64])
+        requires fit { Bands bands.now }
+        requires room { length bands.now ≡ length out.old + 1 }
+        ensures { out.new ≡ map (mean_in (columns self.entry.x.now) (record { from = self.entry.from; to = self.entry.to })) (spans bands.now) }
+    {
+        let slots = self.to - self.from;
+        let mut j = 0;
+        while j < out.len() {
+            let k = bands[j] as usize;
+            let w = bands[j + 1] as usize - k;
+            let count = (2 * slots * w) as u32;
+            if j + 1 < out.len() && bands[j + 2] as usize == k + w + w {
+                let sums = self.pair_of(k, w);
+                out[j] = sbr_floats::mean(sums.a, count);
+                out[j + 1] = sbr_floats::mean(sums.b, count);
+                j += 2;
+            } else {
+                out[j] = sbr_floats::mean(self.band_sum(k, w), count);
+                j += 1;
+            }
         }
     }
 }

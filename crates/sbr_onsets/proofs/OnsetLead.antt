@@ -1,16 +1,15 @@
 -- Laws of the lead, and of the signed numbers that the code finds it with.
-use mathlib.Core.Path.{◌≡◌, refl, sym}
-use mathlib.Core.Bool.{true, false, false≢true}
+use mathlib.Core.Path.{◌≡◌}
+use mathlib.Core.Bool.{true}
 use Prim.Native.Nat.{ℕ, zero, suc, ◌≤◌}
 use native.Mathlib.Omega.{arith}
 use native.Mathlib.Decide.{dec_lt}
-use borrow.Author.Tests.{lt-ltb, le-ltb, ltb-true, ltb-false}
-use lib.Dec.{T}
+use borrow.Author.Tests.{lt-ltb, le-ltb}
 use lib.IntN.{ℤ, pos, negsuc, ◌-ℤ◌, nat_abs}
-use lib.Signed.{lt_z, non_neg}
 use lib.Ieee.{Float}
 use mir.Syntax.{w32, w64}
 use mir.Val.{SFits, to_z, of_z}
+use Rattle.std.specs.Int.{int_max, int_min}
 use mir.ValLaws.{to_z-of_z, to_z_pos}
 use Rattle.sbr_grid.specs.Times.{is_slot_count}
 use Rattle.sbr_build.specs.Cases.{Case}
@@ -37,7 +36,7 @@ pub fits_wide : (z : ℤ) → SFits w32 z → SFits w64 z
 fits_wide z f = record { sfits = omega (arith, f.sfits) }
 
 -- it is itself there
-pub wide_is : (z : ℤ) → SFits w32 z → to_z w64 (of_z w64 (to_z w32 (of_z w32 z))) ≡ z
+wide_is : (z : ℤ) → SFits w32 z → to_z w64 (of_z w64 (to_z w32 (of_z w32 z))) ≡ z
 wide_is z f = rw (to_z-of_z w32 z f) (to_z-of_z w64 z (fits_wide z f))
 
 -- less a slot count it fits
@@ -59,25 +58,10 @@ module _ (z : ℤ) (n : ℕ) (f : SFits w32 z) (h : n ≤ 16) where
   pub code_is : to_z w64 (of_z w64 (to_z w64 (of_z w64 (to_z w32 (of_z w32 z))) -ℤ to_z w64 n)) ≡ z -ℤ pos n
   code_is = rw (wide_is z f, to_z_pos w64 n (omega arith)) (to_z-of_z w64 (z -ℤ pos n) (past_fits z n f h))
 
--- ---- the tests of the code
-
--- a number below 0
-pub held_below : (z : ℤ) → lt_z z (pos 0) ≡ true → 0 ≡ held_to_three z
-held_below (pos k) t = absurd (omega (arith, ltb-true k 0 t))
-held_below (negsuc k) t = refl
-
--- a number above 3
-pub held_above : (z : ℤ) → lt_z (pos 3) z ≡ true → 3 ≡ held_to_three z
-held_above (pos k) t = omega (arith, ltb-true 3 k t)
-held_above (negsuc k) t = absurd (false≢true t)
-
--- a number from 0 to 3
-pub record Within (z : ℤ) : Type 0 where
-  pub positive : T (non_neg z)
-  pub small : nat_abs z ≤ 3
-  pub is_held : nat_abs z ≡ held_to_three z
-
--- neither below 0 nor above 3
-pub held_within : (z : ℤ) → lt_z z (pos 0) ≡ false → lt_z (pos 3) z ≡ false → Within z
-held_within (pos k) t u = let h = ltb-false 3 k u in record { positive = tt; small = h; is_held = omega arith }
-held_within (negsuc k) t u = absurd (false≢true (sym t))
+-- the difference, held by the library to 0 to 3
+pub lead_is : (z r : ℤ) → r ≡ int_max (pos 0) (int_min z (pos 3)) → nat_abs (to_z w64 (of_z w64 r)) ≡ held_to_three z
+lead_is (pos k) r e = elim (dec_lt 3 k) [
+  | yes l ↦ rw (e, lt-ltb 3 k l) (omega arith)
+  | no l ↦ rw (e, le-ltb 3 k (omega arith), le-ltb k 0 (omega arith), to_z-of_z w64 (pos k) (record { sfits = omega arith })) (omega arith)
+]
+lead_is (negsuc k) r e = rw e

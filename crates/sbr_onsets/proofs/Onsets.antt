@@ -4,21 +4,26 @@ use mathlib.Core.Bool.{Bool, true, false, cond, ◌&&◌}
 use mathlib.Core.List.{List, [], ◌∷◌, ◌++◌, append_assoc, append-nil}
 use Prim.Native.Nat.{ℕ, zero, suc, ◌+◌, ◌-◌, ◌/◌, ◌≤◌, ◌<◌}
 use native.Mathlib.Omega.{arith}
-use native.Mathlib.Nat.{zero-add}
 use native.Mathlib.Decide.{dec_lt}
 use native.Mathlib.Numerals.{add-one}
 use borrow.Author.Tests.{lt-ltb, le-ltb}
 use lib.ListN.{length, set, replicate, length-set}
 use lib.Ieee as Ieee
-use lib.Ieee.{Float, binary64}
+use lib.Ieee.{Float, nan, binary64}
+use lib.ListN.{take, drop, length-take, length-drop}
+use lib.Seq.{get_or-take, get_or-drop, length-take-le}
+use Rattle.std.specs.List.{fold}
+use Rattle.std.proofs.lemmas.List.{take_all}
+use Rattle.std.proofs.lemmas.List.Sums.{fold_more}
 use Rattle.sbr_grid.specs.Grid.{first}
 use Rattle.sbr_grid.proofs.First.{first_push, first_fill}
-use Rattle.sbr_floats.specs.Floats.{max_of, min_of, total, mean_of, floor64}
+use Rattle.sbr_floats.specs.Floats.{zero64, max_of, total}
 use Rattle.sbr_build.specs.declared.Onsets.{Onsets}
 use Rattle.sbr_build.specs.Cases.{onset_list, onsets_record, OnsetsFrom}
 use Rattle.sbr_build.proofs.OnsetsRecord.{onsets_few, onsets_list, onsets_made}
-use Rattle.sbr_onsets.specs.Onsets.{energy_at, eight, nano, tenth, one64, half, two64, peak_for, is_attack, onsets_from, detect_onsets, halves_alike}
+use Rattle.sbr_onsets.specs.Onsets.{energy_at, one64, half, two64, peak_for, onsets_from, detect_onsets, halves_alike}
 use Rattle.sbr_energy.proofs.Alike.{total-same}
+use Rattle.sbr_onsets.proofs.OnsetSame.{peak_same}
 
 -- a test that is passed leaves the next one, and one that is not passed is the answer
 pub and_passed : (a b : Bool) → a ≡ true → (a && b) ≡ b
@@ -32,24 +37,35 @@ pub peak_more : (e : ℕ → Float) (n : ℕ) (peak top : Float) → peak ≡ pe
 unfolding peak_for
 peak_more e n peak top p q = rw (add-one n, ← p) q
 
--- the three tests of an onset on what the code has computed: two sums, their means, the smaller mean, the energy of the slot
-pub attack_is : (e : List Float) (peak : Float) (s : ℕ) (sum4 mean4 sum2 mean2 before now : Float)
-    → sum4 ≡ total (λ i. energy_at e (s - 4 + i)) 4 → mean4 ≡ mean_of sum4 4
-    → sum2 ≡ total (λ i. energy_at e (s - 2 + i)) 2 → mean2 ≡ mean_of sum2 2
-    → before ≡ min_of mean4 mean2 → now ≡ energy_at e s
-    → is_attack (energy_at e) peak s
-    ≡ (Ieee.lt (Ieee.add binary64 (Ieee.mul binary64 eight before) nano) now && Ieee.lt (Ieee.mul binary64 tenth peak) now && Ieee.lt floor64 now)
-unfolding is_attack
-attack_is e peak s sum4 mean4 sum2 mean2 before now p q r t u v = rw (u, q, t, p, r, v)
+-- the sum of the first n of a list is that of its places
+pub totals : (xs : List Float) (n : ℕ) → n ≤ length xs → total (energy_at xs) n ≡ fold (Ieee.add binary64) zero64 (take n xs)
+unfolding total
+totals xs zero h = refl
+totals xs (suc n) h = rw (totals xs n (omega arith), ← fold_more (Ieee.add binary64) zero64 xs n nan (omega arith), add-one n)
+
+pub fold_total : (xs : List Float) → fold (Ieee.add binary64) zero64 xs ≡ total (energy_at xs) (length xs)
+fold_total xs = sym (rw (take_all (length xs) xs (omega arith)) at (totals xs (length xs) (omega arith)))
+
+-- the sum of the slots from i up to, not including, j: k slots
+pub sum_part : (e : List Float) (i j k : ℕ) → j ≡ i + k → j ≤ length e → fold (Ieee.add binary64) zero64 (take (j - i) (drop i e)) ≡ total (λ m. energy_at e (i + m)) k
+sum_part e i j k p h =
+    let d : j - i ≡ k = omega arith in
+    let n : length (take k (drop i e)) ≡ k = omega (arith, length-take k (drop i e), length-drop i e) in
+    rw d (fold_total (take k (drop i e)) ∙ rw n (total-same (energy_at (take k (drop i e))) (λ m. energy_at e (i + m)) k
+    (λ m l. get_or-take k (drop i e) m nan l ∙ get_or-drop i e m nan)))
+
+-- the peak of the first n
+pub peak_part : (e : List Float) (n : ℕ) → n ≤ length e → peak_for (energy_at (take n e)) (length (take n e)) ≡ peak_for (energy_at e) n
+peak_part e n h = rw (length-take-le n e h) (peak_same (energy_at (take n e)) (energy_at e) n (λ m l. get_or-take n e m nan l))
 
 -- the two tests of the halves on the sums that the code has computed
 pub halves_is : (e : List Float) (n : ℕ) (first second : Float)
-    → first ≡ total (λ i. energy_at e (0 + i)) (n / 2) → second ≡ total (λ i. energy_at e (n / 2 + i)) (n - n / 2)
+    → first ≡ total (energy_at e) (n / 2) → second ≡ total (λ i. energy_at e (n / 2 + i)) (n - n / 2)
     → let ratio = Ieee.div binary64 (Ieee.add binary64 first one64) (Ieee.add binary64 second one64) in
     halves_alike (energy_at e) n ≡ (Ieee.le half ratio && Ieee.le ratio two64)
 unfolding halves_alike
 halves_is e n first second p q =
-    rw (p ∙ total-same (λ i. energy_at e (0 + i)) (energy_at e) (n / 2) (λ i h. rw (zero-add i)), q)
+    rw (p, q)
 
 -- ---- the scan
 
@@ -122,6 +138,17 @@ module _ {f : ℕ → Bool} {n count : ℕ} {slot : List ℕ} {s : ℕ} (q : Sca
         rest = rw p (rw (p, onsets_miss f n (3 - (count + 1)) s n (omega arith) g e) at q.rest);
       }
 
+  -- where three are found, wherever the scan stands
+  pub scan-kept : (u : ℕ) → 3 ≤ count → Scan f n count slot u
+  scan-kept u h =
+      let p : 3 - count ≡ 0 = omega arith in
+      record {
+        few = q.few;
+        size = q.size;
+        padded = q.padded;
+        rest = rw (p, onsets_full f n u n) (rw (p, onsets_full f n s n) at q.rest);
+      }
+
   -- no onset is left: the array holds those of the frame
   scan-made : onsets_from f n (3 - count) s n ≡ [] → ◌≡◌ {A = Onsets} (record { count = count; slot = slot }) (onsets_record (detect_onsets f n))
   scan-made e = onsets_made count slot (detect_onsets f n) q.padded (sym (append-nil (first 0 count slot)) ∙ (rw e at q.rest))
@@ -129,10 +156,6 @@ module _ {f : ℕ → Bool} {n count : ℕ} {slot : List ℕ} {s : ℕ} (q : Sca
   -- the slots end
   pub scan-end : n ≤ s → ◌≡◌ {A = Onsets} (record { count = count; slot = slot }) (onsets_record (detect_onsets f n))
   scan-end h = scan-made (onsets_end f n (3 - count) s n h)
-
-  -- three onsets are found
-  pub scan-full : 3 ≤ count → ◌≡◌ {A = Onsets} (record { count = count; slot = slot }) (onsets_record (detect_onsets f n))
-  scan-full h = let p : 3 - count ≡ 0 = omega arith in scan-made (rw p (onsets_full f n s n))
 
 -- ---- what a list of onsets is
 

@@ -38,10 +38,13 @@ peak_for e (suc n) = max_of (peak_for e n) (e n)
 abbrev pub mean_before : (ℕ → Float) → ℕ → ℕ → Float
 mean_before e k s = mean_of (total (λ i. e (s - k + i)) k) k
 
+-- the smaller of the means of the 4 and of the 2 slots before s
+abbrev pub smaller_mean : (ℕ → Float) → ℕ → Float
+smaller_mean e s = min_of (mean_before e 4 s) (mean_before e 2 s)
+
 unfoldable pub is_attack : (ℕ → Float) → Float → ℕ → Bool
 is_attack e peak s =
-    let before = min_of (mean_before e 4 s) (mean_before e 2 s) in
-    Ieee.lt (Ieee.add binary64 (Ieee.mul binary64 eight before) nano) (e s)
+    Ieee.lt (Ieee.add binary64 (Ieee.mul binary64 eight (smaller_mean e s)) nano) (e s)
     && Ieee.lt (Ieee.mul binary64 tenth peak) (e s) && Ieee.lt floor64 (e s)
 
 -- the onsets from slot s on and before n, k at most: 4 slots on after one, 1 slot on otherwise; j slots are left to look at

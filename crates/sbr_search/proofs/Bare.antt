@@ -1,50 +1,55 @@
 -- The two lists of wanted borders that a frame's onsets give.
-use mathlib.Core.Path.{◌≡◌, refl, sym, ◌∙◌}
+use mathlib.Core.Path.{◌≡◌, refl}
 use mathlib.Core.Bool.{Bool, false, cond}
-use mathlib.Core.Option.{Option, none, some}
-use mathlib.Core.List.{List, [], ◌∷◌, ◌++◌, append_assoc, append-nil}
+use mathlib.Core.List.{List, [], ◌∷◌, map}
 use Prim.Native.Nat.{ℕ, zero, suc, ◌+◌, ◌≤◌, ◌<◌}
 use native.Mathlib.Omega.{arith}
 use borrow.Author.Tests.{le-ltb, ltb-false}
-use lib.ListN.{length, drop, set, get_or, drop_of_length-le, get_or-map}
+use lib.ListN.{length, get_or, get_or-map}
+use Rattle.std.specs.Prelude.{Option, Some, None}
 use Rattle.sbr_grid.specs.Grid.{first}
-use Rattle.sbr_grid.proofs.First.{first-length, first-get_or, first_push}
+use Rattle.sbr_grid.proofs.First.{first-length, first-get_or}
 use Rattle.sbr_borders.specs.declared.WantedBorder.{WantedBorder}
-use Rattle.sbr_build.specs.declared.Onsets.{Onsets}
-use Rattle.sbr_search.specs.declared.Cost.{Cost}
-use Rattle.sbr_search.specs.declared.Cost.TheVariants.{Total, NoTotal}
-use Rattle.sbr_borders.specs.declared.Wanted.{Wanted}
-use Rattle.sbr_search.specs.Search.{Plan, Best, beats, search, bare, isolated, planned, plain_wins, multi_onset_grid}
 use Rattle.sbr_borders.specs.Borders.{onset_at}
+use Rattle.sbr_borders.specs.Frames.{InFrame}
+use Rattle.sbr_build.specs.declared.Onsets.{Onsets}
 use Rattle.sbr_build.specs.Cases.{OnsetsFrom, Case, onset_list}
-use Rattle.sbr_search.specs.Cheapest.{best_by}
-use Rattle.sbr_borders.specs.Wanted.{wanted_list, InFrame}
+use Rattle.sbr_search.specs.Search.{Best, beats, search, bare, isolated, planned, plain_wins, multi_onset_grid}
 use Rattle.sbr_search.proofs.Bounds.{bounds}
-use Rattle.sbr_borders.proofs.Lists.{drop-next}
 
--- the first k borders of the array stand for all but the onsets from i on
-pub record Bared (ws : List WantedBorder) (os : List ℕ) (k i : ℕ) (bs : List WantedBorder) : Type 0 where
-  pub rest : first (onset_at 0) k bs ++ bare (drop i os) ≡ ws
+-- the border two slots after an onset
+abbrev pub isolating : ℕ → WantedBorder
+isolating s = record { slot = s + 2; onset = false }
 
--- the first onset and the isolating border are there
-pub isolated_begin : (n : ℕ) (xs : List ℕ) (bs : List WantedBorder) → 1 ≤ n
-    → Bared (isolated (first 0 n xs)) (first 0 n xs) 2 1 (onset_at (get_or xs 0 0) ∷ record { slot = get_or xs 0 0 + 2; onset = false } ∷ bs)
-isolated_begin zero xs bs h = absurd (omega arith)
-isolated_begin (suc n) [] bs h = record { rest = refl }
-isolated_begin (suc n) (x ∷ xs) bs h = record { rest = refl }
+-- the borders of one to three onsets
+pub bare_is : (n : ℕ) (xs : List ℕ) → 1 ≤ n → n ≤ 3 → first (onset_at 0) n (map onset_at (first 0 4 (first 0 n xs))) ≡ bare (first 0 n xs)
+bare_is zero xs h k = absurd (omega arith)
+bare_is (suc zero) [] h k = refl
+bare_is (suc zero) (x ∷ xs) h k = refl
+bare_is (suc (suc zero)) [] h k = refl
+bare_is (suc (suc zero)) (x ∷ []) h k = refl
+bare_is (suc (suc zero)) (x ∷ y ∷ xs) h k = refl
+bare_is (suc (suc (suc zero))) [] h k = refl
+bare_is (suc (suc (suc zero))) (x ∷ []) h k = refl
+bare_is (suc (suc (suc zero))) (x ∷ y ∷ []) h k = refl
+bare_is (suc (suc (suc zero))) (x ∷ y ∷ z ∷ xs) h k = refl
+bare_is (suc (suc (suc (suc n)))) xs h k = absurd (omega arith)
 
-module _ {ws : List WantedBorder} {os : List ℕ} {k i : ℕ} {bs : List WantedBorder} (r : Bared ws os k i bs) where
-  -- one onset more
-  pub bare-next : (v : ℕ) → i < length os → k < length bs → get_or os i 0 ≡ v → Bared ws os (k + 1) (i + 1) (set bs k (onset_at v))
-  bare-next v h l e =
-      record {
-        rest = rw (first_push (onset_at 0) k bs (onset_at v) l, append_assoc (first (onset_at 0) k bs) (onset_at v ∷ []) (bare (drop (i + 1) os)))
-            (rw (drop-next 0 os i v h e) at r.rest);
-      }
-
-  -- every onset is there
-  pub bare-end : length os ≤ i → first (onset_at 0) k bs ≡ ws
-  bare-end h = sym (append-nil (first (onset_at 0) k bs)) ∙ rw (drop_of_length-le os {i = i} h) at r.rest
+-- the same with the isolating border
+pub isolated_is : (n : ℕ) (xs : List ℕ) → 1 ≤ n → n ≤ 3
+    → first (onset_at 0) (n + 1) (onset_at (get_or xs 0 0) ∷ isolating (get_or xs 0 0) ∷ onset_at (get_or xs 1 0) ∷ onset_at (get_or xs 2 0) ∷ [])
+    ≡ isolated (first 0 n xs)
+isolated_is zero xs h k = absurd (omega arith)
+isolated_is (suc zero) [] h k = refl
+isolated_is (suc zero) (x ∷ xs) h k = refl
+isolated_is (suc (suc zero)) [] h k = refl
+isolated_is (suc (suc zero)) (x ∷ []) h k = refl
+isolated_is (suc (suc zero)) (x ∷ y ∷ xs) h k = refl
+isolated_is (suc (suc (suc zero))) [] h k = refl
+isolated_is (suc (suc (suc zero))) (x ∷ []) h k = refl
+isolated_is (suc (suc (suc zero))) (x ∷ y ∷ []) h k = refl
+isolated_is (suc (suc (suc zero))) (x ∷ y ∷ z ∷ xs) h k = refl
+isolated_is (suc (suc (suc (suc n)))) xs h k = absurd (omega arith)
 
 -- ---- the borders of a case are in the frame
 
@@ -60,11 +65,12 @@ abbrev Inside : WantedBorder → Type 0
 Inside b = (1 ≤ b.slot) × (b.slot ≤ 32)
 
 -- wanted borders with such a list are in the frame
-in_frame : (w : Wanted) (ws : List WantedBorder) → wanted_list w ≡ ws → w.count ≤ 4 → ((i : ℕ) → i < w.count → Inside (get_or ws i (onset_at 0))) → InFrame w
-in_frame w ws e h f =
-    let at : (i : ℕ) → i < w.count → Inside (get_or w.border i (onset_at 0)) =
-    λ i l. rw (← first-get_or (onset_at 0) w.count i w.border l, e) (f i l) in
-    record { few = h; from = λ i l. (at i l).0; by = λ i l. (at i l).1 }
+in_frame : (n : ℕ) (bs ws : List WantedBorder) → first (onset_at 0) n bs ≡ ws → 1 ≤ n → n ≤ 4
+    → ((i : ℕ) → i < n → Inside (get_or ws i (onset_at 0))) → InFrame n bs
+in_frame n bs ws e g h f =
+    let at : (i : ℕ) → i < n → Inside (get_or bs i (onset_at 0)) =
+    λ i l. rw (← first-get_or (onset_at 0) n i bs l, e) (f i l) in
+    record { some = g; few = h; from = λ i l. (at i l).0; by = λ i l. (at i l).1 }
 
 -- the onsets are in such slots
 bare-inside : (n : ℕ) (os : List ℕ) (k lo i : ℕ) → 1 ≤ lo → n ≤ 16 → OnsetsFrom k lo n os → i < length os → Inside (get_or (bare os) i (onset_at 0))
@@ -78,41 +84,48 @@ isolated-inside n (s ∷ os) (suc zero) m h l p = omega (arith, h.0, h.1)
 isolated-inside n (s ∷ os) (suc (suc i)) m h l p = bare-inside n os 2 (s + 4) i (omega arith) m h.2 (omega arith)
 
 -- the onsets as wanted borders are in the frame
-pub bare_framed : {n lead : ℕ} (o : Onsets) (w : Wanted) → Case n lead (onset_list o) → 1 ≤ o.count
-    → wanted_list w ≡ bare (onset_list o) → w.count ≡ o.count → InFrame w
-bare_framed {n} {lead} o w c h e k =
+pub bare_framed : {n lead : ℕ} (o : Onsets) (bs : List WantedBorder) → Case n lead (onset_list o) → 1 ≤ o.count
+    → first (onset_at 0) o.count bs ≡ bare (onset_list o) → InFrame o.count bs
+bare_framed {n} {lead} o bs c h e =
     let f = bounds n lead o c in
     let l = first-length 0 o.count o.slot in
-    in_frame w (bare (onset_list o)) e (omega arith) (λ i j. bare-inside n (onset_list o) 3 4 i (omega arith) f.frame.most c.onsets (omega arith))
+    in_frame o.count bs (bare (onset_list o)) e h (omega arith) (λ i j. bare-inside n (onset_list o) 3 4 i (omega arith) f.frame.most c.onsets (omega arith))
 
 -- the same with the isolating border
-pub isolated_framed : {n lead : ℕ} (o : Onsets) (w : Wanted) → Case n lead (onset_list o) → 1 ≤ o.count
-    → wanted_list w ≡ isolated (onset_list o) → w.count ≡ o.count + 1 → InFrame w
-isolated_framed {n} {lead} o w c h e k =
+pub isolated_framed : {n lead : ℕ} (o : Onsets) (bs : List WantedBorder) → Case n lead (onset_list o) → 1 ≤ o.count
+    → first (onset_at 0) (o.count + 1) bs ≡ isolated (onset_list o) → InFrame (o.count + 1) bs
+isolated_framed {n} {lead} o bs c h e =
     let f = bounds n lead o c in
     let l = first-length 0 o.count o.slot in
-    in_frame w (isolated (onset_list o)) e (omega arith) (λ i j. isolated-inside n (onset_list o) i f.frame.most c.onsets (omega arith) (omega arith))
+    in_frame (o.count + 1) bs (isolated (onset_list o)) e (omega arith) (omega arith)
+    (λ i j. isolated-inside n (onset_list o) i f.frame.most c.onsets (omega arith) (omega arith))
 
 -- ---- the choice between the two searches
 
--- whether the plain plan wins does not depend on the plans
-pub wins_any : (c d : Cost) (p q p' q' : Plan) → plain_wins (best_by c p) (best_by d q) ≡ plain_wins (best_by c p') (best_by d q')
-wins_any NoTotal NoTotal p q p' q' = refl
-wins_any NoTotal (Total y) p q p' q' = refl
-wins_any (Total x) NoTotal p q p' q' = refl
-wins_any (Total x) (Total y) p q p' q' = refl
-
 -- no plain plan wins over one that costs no more than the isolating border is worth
-pub plain_loses : (i p : Option Best) → beats 2 i ≡ false → plain_wins i p ≡ false
-plain_loses none p e = let z : ◌≡◌ {A = ℕ} 0 1 = cc in absurd (omega arith)
-plain_loses (some i) none e = refl
-plain_loses (some i) (some p) e = le-ltb (p.total + 2) i.total (omega (arith, ltb-false 2 i.total e))
+plain_loses : (i p : Option Best) → beats 2 i ≡ false → plain_wins i p ≡ false
+plain_loses None p e = let z : ◌≡◌ {A = ℕ} 0 1 = cc in absurd (omega arith)
+plain_loses (Some i) None e = refl
+plain_loses (Some i) (Some p) e = le-ltb (p.total + 2) i.total (omega (arith, ltb-false 2 i.total e))
 
 -- the grid of the search that wins
-pub multi_by : (n lead k : ℕ) (xs : List ℕ) (i p : Option Best) (b : Bool) → 1 ≤ k → i ≡ search n lead (isolated (first 0 k xs))
+multi_by : (n lead k : ℕ) (xs : List ℕ) (i p : Option Best) (b : Bool) → 1 ≤ k → i ≡ search n lead (isolated (first 0 k xs))
     → p ≡ search n lead (bare (first 0 k xs)) → plain_wins i p ≡ b
     → cond b (planned n lead (bare (first 0 k xs)) p) (planned n lead (isolated (first 0 k xs)) i) ≡ multi_onset_grid (first 0 k xs) lead n
 unfolding multi_onset_grid
 multi_by n lead zero xs i p b h e f g = absurd (omega arith)
 multi_by n lead (suc k) [] i p b h e f g = rw (← e, ← f, g)
 multi_by n lead (suc k) (x ∷ xs) i p b h e f g = rw (← e, ← f, g)
+
+-- the same by the borders of the two kinds
+pub chosen : (n lead : ℕ) (o : Onsets) (us ws : List WantedBorder) (i p : Option Best) (b : Bool) → 1 ≤ o.count → us ≡ isolated (onset_list o)
+    → ws ≡ bare (onset_list o) → i ≡ search n lead us → p ≡ search n lead ws → plain_wins i p ≡ b
+    → cond b (planned n lead ws p) (planned n lead us i) ≡ multi_onset_grid (onset_list o) lead n
+chosen n lead o us ws i p b h e f g k l = rw (f, e) (multi_by n lead o.count o.slot i p b h (rw e at g) (rw f at k) l)
+
+-- a plan that costs no more than the isolating border is worth wins whatever the plain one costs
+pub alone : (n lead : ℕ) (o : Onsets) (us : List WantedBorder) (i : Option Best) → 1 ≤ o.count → us ≡ isolated (onset_list o) → i ≡ search n lead us
+    → beats 2 i ≡ false → planned n lead us i ≡ multi_onset_grid (onset_list o) lead n
+alone n lead o us i h e g k =
+    let p = search n lead (bare (onset_list o)) in
+    chosen n lead o us (bare (onset_list o)) i p false h e refl g refl (plain_loses i p k)

@@ -8,7 +8,8 @@ use Rattle.sbr_grid.proofs.First.{first-length}
 use Rattle.sbr_grid.proofs.Slots.{slot_range}
 use Rattle.sbr_build.specs.declared.Onsets.{Onsets}
 use Rattle.sbr_build.proofs.OnsetsRecord.{onsets_few}
-use Rattle.sbr_build.specs.Cases.{FrameBounds, OnsetsFrom, Case, onset_list}
+use Rattle.sbr_build.specs.Frames.{FrameBounds}
+use Rattle.sbr_build.specs.Cases.{OnsetsFrom, Case, onset_list}
 
 -- the bounds of a frame, and of the count of its onsets
 pub record Bounds (n lead : ℕ) (o : Onsets) : Type 0 where
@@ -35,10 +36,6 @@ second_in : (k lo n i : ℕ) (xs : List ℕ) → 2 ≤ i → OnsetsFrom (suc (su
 second_in k lo n zero xs p h = absurd (omega arith)
 second_in k lo n (suc i) [] p h = first_in k (0 + 4) n i [] (omega arith) h.2
 second_in k lo n (suc i) (x ∷ xs) p h = first_in k (x + 4) n i xs (omega arith) h.2
-
--- the first onset of a case is at 4 or later
-pub first_onset : (n lead : ℕ) (o : Onsets) → Case n lead (onset_list o) → 1 ≤ o.count → (4 ≤ get_or o.slot 0 0) × (get_or o.slot 0 0 < n)
-first_onset n lead o c h = first_in 2 4 n o.count o.slot h c.onsets
 
 -- the second onset of a case is 4 or more after the first
 pub second_onset : (n lead : ℕ) (o : Onsets) → Case n lead (onset_list o) → 2 ≤ o.count

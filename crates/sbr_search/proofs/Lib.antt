@@ -1,3 +1,3 @@
-pub mod TryEnds
-pub mod Bounds
 pub mod Bare
+pub mod Bounds
+pub mod TryEnds

@@ -2,42 +2,19 @@
 use mathlib.Core.Path.{◌≡◌, refl, sym, ap, ◌∙◌}
 use mathlib.Core.Bool.{Bool, true, false, cond, and-false}
 use mathlib.Core.List.{List, [], ◌∷◌, map}
-use mathlib.Core.Option.{Option, none, some}
+use Rattle.std.specs.Prelude.{Option, Some, None}
 use Prim.Native.Nat.{ℕ, zero, suc, ◌+◌, ◌-◌, ◌≤◌, ◌<◌}
 use native.Mathlib.Omega.{arith}
 use native.Mathlib.Numerals.{add-one}
-use native.Mathlib.Decide.{dec_le}
 use borrow.Author.Tests.{lt-ltb, le-ltb, ltb-false}
 use lib.Dec.{ltb}
 use lib.ListN.{replicate}
 use Rattle.sbr_grid.specs.Grid.{first}
 use Rattle.sbr_grid.proofs.First.{first-replicate}
 use Rattle.sbr_borders.specs.declared.WantedBorder.{WantedBorder}
-use Rattle.sbr_search.specs.declared.Cost.{Cost}
-use Rattle.sbr_search.specs.declared.Cost.TheVariants.{Total, NoTotal}
-use Rattle.sbr_search.specs.Search.{Plan, Best, beats, try_ends, try_shifts, try_from, search}
+use Rattle.sbr_search.specs.Search.{Best, beats, try_ends, try_shifts, try_from, search}
 use Rattle.sbr_borders.specs.Borders.{places, prices, rises_from, last_or, fit, next_shifts, onset_at}
-use Rattle.sbr_search.specs.Cheapest.{best_by}
 use Rattle.sbr_borders.proofs.FitCounts.{left}
-
--- what is not below is at least as large
-le_of_not : (c d : ℕ) → (c < d → ⊥) → Dec (suc c ≤ d) → d ≤ c
-le_of_not c d f (yes h) = absurd (f h)
-le_of_not c d f (no h) = omega arith
-
--- the next law, by the first test
-same_by : (a b c d : ℕ) → (a < b → c < d) → (c < d → a < b) → Dec (suc a ≤ b) → ltb a b ≡ ltb c d
-same_by a b c d f g (yes h) = rw (lt-ltb a b h, lt-ltb c d (f h))
-same_by a b c d f g (no h) = rw (le-ltb a b (omega arith), le-ltb c d (le_of_not c d (λ k. h (g k)) (dec_le (suc c) d)))
-
--- two tests that hold together are equal
-pub ltb_same : (a b c d : ℕ) → (a < b → c < d) → (c < d → a < b) → ltb a b ≡ ltb c d
-ltb_same a b c d f g = same_by a b c d f g (dec_le (suc a) b)
-
--- whether a cost beats a best plan does not depend on its plan
-pub beats_any : (t : ℕ) (c : Cost) (p q : Plan) → beats t (best_by c p) ≡ beats t (best_by c q)
-beats_any t NoTotal p q = refl
-beats_any t (Total x) p q = refl
 
 module _ (over n lead : ℕ) (is bs : List ℕ) (c : ℕ) (best : Option Best) where
   -- the end is not past the last border
@@ -52,13 +29,13 @@ module _ (over n lead : ℕ) (is bs : List ℕ) (c : ℕ) (best : Option Best) w
 
   module _ (h : last_or lead bs < n + over) (e : beats (c + over) best ≡ true) where
     -- no count of leading lengths reaches every border
-    pub end-unfit : fit 4 0 lead (n + over) bs ≡ none → best ≡ try_ends 1 over n lead is bs c best
+    pub end-unfit : fit 4 0 lead (n + over) bs ≡ None → best ≡ try_ends 1 over n lead is bs c best
     unfolding try_ends
     end-unfit f = rw (f, lt-ltb (last_or lead bs) (n + over) h, e)
 
     -- a cheaper plan
-    pub end-fit : (k : ℕ) → fit 4 0 lead (n + over) bs ≡ some k
-        → some (record { total = c + over; plan = record { shifts = is; over = over; leading = k } }) ≡ try_ends 1 over n lead is bs c best
+    pub end-fit : (k : ℕ) → fit 4 0 lead (n + over) bs ≡ Some k
+        → Some (record { total = c + over; plan = record { shifts = is; over = over; leading = k } }) ≡ try_ends 1 over n lead is bs c best
     unfolding try_ends
     end-fit k f = rw (f, lt-ltb (last_or lead bs) (n + over) h, e)
 
@@ -74,12 +51,12 @@ module _ (m k n lead : ℕ) (is bs : List ℕ) (c : ℕ) (best : Option Best) (o
   unfolding try_ends
   ends-end h f = let e : m - k ≡ 0 = omega arith in rw e at f
 
--- a cost that beats no plan beats none with more added
+-- a cost that beats no plan beats None with more added
 beats_more : (c d : ℕ) (best : Option Best) → beats c best ≡ false → beats (c + d) best ≡ false
-beats_more c d none e = let z : ◌≡◌ {A = ℕ} 0 1 = cc in absurd (omega arith)
-beats_more c d (some b) e = le-ltb (c + d) b.total (omega (arith, ltb-false c b.total e))
+beats_more c d None e = let z : ◌≡◌ {A = ℕ} 0 1 = cc in absurd (omega arith)
+beats_more c d (Some b) e = le-ltb (c + d) b.total (omega (arith, ltb-false c b.total e))
 
--- shifts that cost as much as the best plan give none at any end
+-- shifts that cost as much as the best plan give None at any end
 ends_dear : (j over n lead : ℕ) (is bs : List ℕ) (c : ℕ) (best : Option Best) → beats c best ≡ false → try_ends j over n lead is bs c best ≡ best
 unfolding try_ends
 ends_dear zero over n lead is bs c best e = refl
@@ -110,26 +87,26 @@ module _ (n lead : ℕ) (ws : List WantedBorder) (is bs : List ℕ) (best : Opti
   shifts-rise c now f p h = rw (← e, f, ← p) h
 
 -- without shifts nothing is tried
-try_none : (j n lead : ℕ) (ws : List WantedBorder) (best : Option Best) → try_from j n lead ws none best ≡ best
+try_none : (j n lead : ℕ) (ws : List WantedBorder) (best : Option Best) → try_from j n lead ws None best ≡ best
 unfolding try_from
 try_none zero n lead ws best = refl
 try_none (suc j) n lead ws best = refl
 
 module _ (m k n lead : ℕ) (ws : List WantedBorder) (is : List ℕ) (best : Option Best) (o : Option Best) where
   -- the shifts at hand, and the turns after them
-  pub search-next : (now : Option Best) (next : List ℕ) → k < m → now ≡ try_shifts n lead ws is best → some next ≡ next_shifts ws is
-      → try_from (m - k) n lead ws (some is) best ≡ o → try_from (m - (k + 1)) n lead ws (some next) now ≡ o
+  pub search-next : (now : Option Best) (next : List ℕ) → k < m → now ≡ try_shifts n lead ws is best → Some next ≡ next_shifts ws is
+      → try_from (m - k) n lead ws (Some is) best ≡ o → try_from (m - (k + 1)) n lead ws (Some next) now ≡ o
   unfolding try_from
   search-next now next h e g f = rw (e, g) (rw (left m k h) at f)
 
   -- the shifts at hand are the last
-  pub search-last : (now : Option Best) → k < m → now ≡ try_shifts n lead ws is best → none ≡ next_shifts ws is
-      → try_from (m - k) n lead ws (some is) best ≡ o → now ≡ o
+  pub search-last : (now : Option Best) → k < m → now ≡ try_shifts n lead ws is best → None ≡ next_shifts ws is
+      → try_from (m - k) n lead ws (Some is) best ≡ o → now ≡ o
   unfolding try_from
   search-last now h e g f = e ∙ sym (try_none (m - (k + 1)) n lead ws (try_shifts n lead ws is best)) ∙ rw g (rw (left m k h) at f)
 
   -- no turn is left
-  pub search-end : m ≤ k → try_from (m - k) n lead ws (some is) best ≡ o → best ≡ o
+  pub search-end : m ≤ k → try_from (m - k) n lead ws (Some is) best ≡ o → best ≡ o
   unfolding try_from
   search-end h f = let e : m - k ≡ 0 = omega arith in rw e at f
 
@@ -141,6 +118,6 @@ zero_shifts (suc n) (b ∷ bs) = ap {B = List ℕ} (λ t. 0 ∷ t) (zero_shifts 
 
 -- the search tries the turns from the shifts that move no border
 pub search_begin : (n lead k m : ℕ) (bs : List WantedBorder)
-    → try_from 24 n lead (first (onset_at 0) k bs) (some (first 0 k (replicate m 0))) none ≡ search n lead (first (onset_at 0) k bs)
+    → try_from 24 n lead (first (onset_at 0) k bs) (Some (first 0 k (replicate m 0))) None ≡ search n lead (first (onset_at 0) k bs)
 unfolding search
 search_begin n lead k m bs = rw (first-replicate {A = ℕ} 0 k m, zero_shifts k bs)

@@ -1,2 +1,3 @@
-pub mod Search
+pub mod Attacked
 pub mod Cheapest
+pub mod Search

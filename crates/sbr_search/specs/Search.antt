@@ -1,6 +1,5 @@
 -- The border search in the Rust's order: `varvar_from_borders` and `multi_onset_grid` of src/sbr_encoder.rs, docs/ORDER.md, BS.
-use Rattle.std.specs.Prelude.{Bool, true, false, cond, ◌&&◌, List, [], ◌∷◌, map, ℕ, zero, suc, ◌+◌, ltb}
-use Rattle.std.proofs.Math.Option.{Option, none, some}
+use Rattle.std.specs.Prelude.{Bool, true, false, cond, ◌&&◌, List, [], ◌∷◌, map, ℕ, zero, suc, ◌+◌, ltb, Option, Some, None}
 use Rattle.sbr_grid.specs.Grid.{Grid}
 use Rattle.sbr_borders.specs.declared.WantedBorder.{WantedBorder}
 use Rattle.sbr_build.specs.Build.{varvar_grid}
@@ -19,12 +18,12 @@ pub record Best : Type 0 where
   pub plan : Plan
 
 abbrev pub beats : ℕ → Option Best → Bool
-beats total none = true
-beats total (some b) = ltb total b.total
+beats total None = true
+beats total (Some b) = ltb total b.total
 
 abbrev pub keep_plan : List ℕ → ℕ → ℕ → Option Best → Option ℕ → Option Best
-keep_plan is over total best none = best
-keep_plan is over total best (some k) = some (record { total = total; plan = record { shifts = is; over = over; leading = k } })
+keep_plan is over total best None = best
+keep_plan is over total best (Some k) = Some (record { total = total; plan = record { shifts = is; over = over; leading = k } })
 
 -- the ends n + over, n + over + 1, .., j of them, for shifts of cost c that put the borders at bs
 unfoldable pub try_ends : ℕ → ℕ → ℕ → ℕ → List ℕ → List ℕ → ℕ → Option Best → Option Best
@@ -42,12 +41,12 @@ try_shifts n lead ws is best =
 -- the shifts from is on, j of them
 unfoldable pub try_from : ℕ → ℕ → ℕ → List WantedBorder → Option (List ℕ) → Option Best → Option Best
 try_from zero n lead ws is best = best
-try_from (suc j) n lead ws none best = best
-try_from (suc j) n lead ws (some is) best = try_from j n lead ws (next_shifts ws is) (try_shifts n lead ws is best)
+try_from (suc j) n lead ws None best = best
+try_from (suc j) n lead ws (Some is) best = try_from j n lead ws (next_shifts ws is) (try_shifts n lead ws is best)
 
 -- two shifts for each border and three for the isolating one: 24 at most
 unfoldable pub search : ℕ → ℕ → List WantedBorder → Option Best
-search n lead ws = try_from 24 n lead ws (some (map (λ w. 0) ws)) none
+search n lead ws = try_from 24 n lead ws (Some (map (λ w. 0) ws)) None
 
 -- ---- the two kinds
 
@@ -66,17 +65,17 @@ plan_grid n lead ws p =
     varvar_grid lead p.over (leading_steps lead p.leading bs) (trailing_steps (n + p.over) p.leading bs) 1
 
 abbrev pub planned : ℕ → ℕ → List WantedBorder → Option Best → Option Grid
-planned n lead ws none = none
-planned n lead ws (some b) = some (plan_grid n lead ws b.plan)
+planned n lead ws None = None
+planned n lead ws (Some b) = Some (plan_grid n lead ws b.plan)
 
 -- the search without the isolating border wins if its cost + 2 is below the other's, or the other has no plan
 abbrev pub plain_wins : Option Best → Option Best → Bool
-plain_wins i none = false
-plain_wins none (some p) = true
-plain_wins (some i) (some p) = ltb (p.total + 2) i.total
+plain_wins i None = false
+plain_wins None (Some p) = true
+plain_wins (Some i) (Some p) = ltb (p.total + 2) i.total
 
 unfoldable pub multi_onset_grid : List ℕ → ℕ → ℕ → Option Grid
-multi_onset_grid [] lead n = none
+multi_onset_grid [] lead n = None
 multi_onset_grid (s ∷ rest) lead n =
     let os = s ∷ rest in
     let i = search n lead (isolated os) in

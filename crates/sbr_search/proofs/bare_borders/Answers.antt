@@ -1,21 +1,18 @@
-use mathlib.Core.Path.{◌≡◌}
-use native.Mathlib.Omega.{arith}
-use lib.ListN.{length-set}
-use Rattle.sbr_grid.proofs.First.{first-length, first-get_or}
-use Rattle.sbr_search.proofs.Bare.{bare-next, bare-end}
+use Rattle.sbr_search.proofs.Bounds.{bounds}
+use Rattle.sbr_search.proofs.Bare.{bare_is, bare_framed}
 use Rattle.sbr_search.proofs.bare_borders.Goals as goal
 
-pub loop-i-preserved : goal.loop-i-preserved
-loop-i-preserved c =
-    let o = c.args.onsets in (
-      omega arith,
-      simp length-set c.loop-i.invariant.1,
-      bare-next c.loop-i.invariant.2 _ (omega (arith, first-length 0 o.count o.slot)) (omega arith)
-          (first-get_or 0 o.count c.loop-i.i o.slot (omega arith)),
-    )
+pub slots-requires : goal.slots-requires
+slots-requires c = (bounds _ _ c.args.attacks.onsets c.args.attacks.case).few
 
-pub returns-clause-result_value : goal.returns-clause-result_value
-returns-clause-result_value c =
-    let o = c.args.onsets in
-    let e : c.loop-i.i ≡ o.count = omega arith in
-    rw e at (bare-end c.loop-i.invariant.2 (omega (arith, first-length 0 o.count o.slot)))
+pub invariant_of-result : goal.invariant_of-result
+invariant_of-result c =
+    let a = c.args.attacks in
+    let b = bounds _ _ a.onsets a.case in
+    record { in_frame = bare_framed a.onsets _ a.case a.some (rw (c.onset_borders.ensures, c.slots.ensures) (bare_is a.onsets.count a.onsets.slot a.some b.few)) }
+
+pub returns : goal.returns
+returns c =
+    let a = c.args.attacks in
+    let b = bounds _ _ a.onsets a.case in
+    rw (c.onset_borders.ensures, c.slots.ensures) (bare_is a.onsets.count a.onsets.slot a.some b.few)

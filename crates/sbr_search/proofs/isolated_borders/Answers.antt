@@ -1,22 +1,21 @@
-use mathlib.Core.Path.{◌≡◌}
-use native.Mathlib.Omega.{arith}
-use lib.ListN.{length-set}
-use Rattle.sbr_grid.proofs.First.{first-length, first-get_or}
-use Rattle.sbr_search.proofs.Bare.{bare-next, bare-end}
+use Rattle.std.proofs.Common.{arith}
+use Rattle.sbr_search.proofs.Bounds.{bounds}
+use Rattle.sbr_search.proofs.Bare.{isolated_is, isolated_framed}
 use Rattle.sbr_search.proofs.isolated_borders.Goals as goal
 
-pub loop-i-preserved : goal.loop-i-preserved
-loop-i-preserved c =
-    let o = c.args.onsets in (
-      omega arith,
-      omega arith,
-      simp length-set c.loop-i.invariant.2,
-      bare-next c.loop-i.invariant.3 _ (omega (arith, first-length 0 o.count o.slot)) (omega arith)
-          (first-get_or 0 o.count c.loop-i.i o.slot (omega arith)),
-    )
+pub overflow_add-result : goal.overflow_add-result
+overflow_add-result c =
+    let b = bounds _ _ c.args.attacks.onsets c.args.attacks.case in
+    omega (arith, b.few)
 
-pub returns-clause-result_value : goal.returns-clause-result_value
-returns-clause-result_value c =
-    let o = c.args.onsets in
-    let e : c.loop-i.i ≡ o.count = omega arith in
-    rw e at (bare-end c.loop-i.invariant.3 (omega (arith, first-length 0 o.count o.slot)))
+pub invariant_of-result : goal.invariant_of-result
+invariant_of-result c =
+    let a = c.args.attacks in
+    let b = bounds _ _ a.onsets a.case in
+    record { in_frame = isolated_framed a.onsets _ a.case a.some (rw (c.onset_at.ensures, c.onset_at-2.ensures, c.onset_at-3.ensures) (isolated_is a.onsets.count a.onsets.slot a.some b.few)) }
+
+pub returns : goal.returns
+returns c =
+    let a = c.args.attacks in
+    let b = bounds _ _ a.onsets a.case in
+    rw (c.onset_at.ensures, c.onset_at-2.ensures, c.onset_at-3.ensures) (isolated_is a.onsets.count a.onsets.slot a.some b.few)
