@@ -1,26 +1,29 @@
 -- Laws of the choice of a grid from onsets in an array.
+use Rattle.std.specs.Prelude.{Ok}
+use Rattle.sbr_grid.specs.declared.Refusal.TheVariants.{SlotCount, Samples, Tables}
+use Rattle.sbr_grid.specs.Refusals.{unless, result_map}
+use Rattle.sbr_grid.proofs.Outcomes.{unless_answered}
+use Rattle.sbr_resolution.specs.Resolution.{framed}
 use mathlib.Core.Path.{◌≡◌, refl, sym, ap, ◌∙◌}
-use mathlib.Core.Bool.{Bool, true}
+use mathlib.Core.Bool.{Bool, true, false}
 use mathlib.Core.List.{List, [], ◌∷◌}
 use Prim.Native.Nat.{ℕ, zero, suc, ◌+◌}
 use native.Mathlib.Omega.{arith}
 use borrow.Author.Tests.{lt-ltb}
-use lib.Dec.{ltb}
+use lib.Dec.{ltb, leb}
 use lib.IntN.{ℤ}
 use lib.Ieee.{Float, nan}
-use lib.ListN.{get_or}
+use lib.ListN.{get_or, length}
 use Rattle.sbr_grid.specs.declared.SbrGrid.{SbrGrid}
-use Rattle.sbr_grid.specs.declared.Answer.TheVariants.{Given}
-use Rattle.sbr_grid.specs.Refusals.{answered}
 use Rattle.sbr_grid.specs.Grid.{first, Grid, view_of, record_of}
 use Rattle.sbr_grid.proofs.Laws.{view_record}
 use Rattle.sbr_grid.specs.Times.{Times, is_slot_count}
 use Rattle.sbr_time_grid.specs.TimeGrid.{time_grid}
 use Rattle.sbr_writer.specs.Write.{fields_fit_of, class_fits}
 use Rattle.sbr_writer.proofs.Writable.{both, fields_told}
-use Rattle.sbr_qmf.specs.Qmf.{SampleAt}
+use Rattle.sbr_qmf.specs.Qmf.{SampleAt, columns, samples_needed}
 use Rattle.sbr_energy.specs.Energy.{slot_energy, slot_energies}
-use Rattle.sbr_bands.specs.Tables.{entry, last_entry}
+use Rattle.sbr_bands.specs.Tables.{entry, last_entry, tables_fit}
 use Rattle.sbr_onsets.specs.Onsets.{halves_alike, onsets_for, lead_for}
 use Rattle.sbr_onsets.proofs.OnsetSame.{onsets-array, halves-array}
 use Rattle.sbr_onsets.proofs.OnsetLead.{frame_case}
@@ -30,7 +33,7 @@ use Rattle.sbr_build.specs.Cases.{onset_list}
 use Rattle.sbr_choice.specs.Choice.{chosen_grid}
 use Rattle.sbr_choice.proofs.ChoiceCases.{chosen_some}
 use Rattle.sbr_encoder.specs.declared.Election.{Election}
-use Rattle.sbr_encoder.specs.Election.{Elected, has_onset, resolved, elected_of, election_of}
+use Rattle.sbr_encoder.specs.Election.{has_onset, resolved, elected_of, elect, election}
 use Rattle.sbr_encoder.proofs.Kept.{chosen_kept}
 
 -- whether the halves are alike counts only where there is no onset
@@ -61,7 +64,7 @@ pub record Plan (x : SampleAt) (high low : List ℕ) (n : ℕ) (previous : ℤ) 
   pub time : Times
   pub view : view_of r ≡ grid
   pub whole : record_of (view_of r) ≡ r
-  pub derived : time_grid n (view_of r) ≡ answered time
+  pub derived : time_grid n (view_of r) ≡ Ok time
   pub elects : elected_of x high low n previous variable ≡ record { grid = resolved x high low (view_of r) time; transient = transient }
 
 -- the record that is chosen for the energies in the array is such a plan
@@ -92,6 +95,27 @@ planned x high low n previous variable e r transient slots q p t =
 -- with its resolutions elected, it is what the election hands out
 pub handed_out : (x : SampleAt) (high low : List ℕ) (n : ℕ) (previous : ℤ) (variable : Bool) (r s : SbrGrid) (transient : Bool) (p : Plan x high low n previous variable r transient)
     → s ≡ record_of (resolved x high low (view_of r) p.time)
-    → ◌≡◌ {A = Election} (record { answer = Given; grid = s; transient = transient }) (election_of (answered (elected_of x high low n previous variable)))
+    → ◌≡◌ {A = Election} (record { grid = s; transient = transient }) (election (elected_of x high low n previous variable))
 handed_out x high low n previous variable r s transient p e =
-    (λ i. record { answer = Given; grid = e i; transient = transient }) ∙ sym (ap (λ (z : Elected). election_of (answered z)) p.elects)
+    (λ i. record { grid = e i; transient = transient }) ∙ sym (ap election p.elects)
+
+-- the election behind the tests that it shares with the energies
+pub elect_framed : (n : ℕ) (high low : List ℕ) (x : List Float) (previous : ℤ) (variable : Bool)
+    → elect n high low x previous variable ≡ result_map (λ s. elected_of (columns x) high low n previous variable) (framed n high low x)
+unfolding elect
+elect_framed n high low x previous variable = by (is_slot_count n) (tables_fit high low) (leb (samples_needed n) (length x))
+  where
+    by : (a b c : Bool) → unless a SlotCount (unless b Tables (unless c Samples (Ok (elected_of (columns x) high low n previous variable))))
+        ≡ result_map (λ s. elected_of (columns x) high low n previous variable) (unless a SlotCount (unless b Tables (unless c Samples (Ok (n + 8)))))
+    by true true true = refl
+    by true true false = refl
+    by true false c = refl
+    by false b c = refl
+
+-- what those tests leave where they are passed
+pub framed_passed : (n : ℕ) (high low : List ℕ) (x : List Float) (s : ℕ) → Ok s ≡ framed n high low x → (is_slot_count n ≡ true) × (s ≡ n + 8)
+framed_passed n high low x s e =
+    let a = unless_answered (is_slot_count n) _ _ (sym e) in
+    let b = unless_answered (tables_fit high low) _ _ a.1 in
+    let c = unless_answered (leb (samples_needed n) (length x)) _ _ b.1 in
+    (a.0, cc c.1)

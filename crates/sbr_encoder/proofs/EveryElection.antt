@@ -1,4 +1,5 @@
 -- What holds of every elected record.
+use Rattle.std.specs.Prelude.{Ok}
 use mathlib.Core.Path.{◌≡◌, refl, ap, ◌∙◌}
 use mathlib.Core.Bool.{Bool}
 use mathlib.Core.List.{List, map}
@@ -8,7 +9,7 @@ use lib.Dec.{leb}
 use lib.ListN.{length, length-map}
 use Rattle.sbr_grid.specs.declared.FrameClass.{FrameClass}
 use Rattle.sbr_grid.specs.declared.FrameClass.TheVariants.{FixFix, FixVar, VarFix, VarVar}
-use Rattle.sbr_grid.specs.Refusals.{Outcome, answered}
+use Rattle.sbr_grid.specs.Refusals.{Outcome}
 use Rattle.sbr_grid.specs.Grid.{by_class, Grid}
 use Rattle.sbr_grid.specs.Times.{Times, is_slot_count}
 use Rattle.sbr_grid.proofs.Outcomes.{unless_answered}
@@ -33,7 +34,7 @@ use Rattle.sbr_encoder.proofs.Kept.{chosen_kept}
 
 -- a record that was read, and the bits behind it
 reading : List Bool → Grid → Outcome (Grid × List Bool)
-reading rest g = answered (g, rest)
+reading rest g = Ok (g, rest)
 
 -- a grid that is sound and kept is sent
 sent : (n lead : ℕ) (g : Grid) → Sound n lead g → Kept g → Electable n lead g

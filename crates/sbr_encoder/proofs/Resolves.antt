@@ -8,9 +8,13 @@ use lib.ListN.{length}
 use Rattle.sbr_grid.specs.declared.FrameClass.{FrameClass}
 use Rattle.sbr_grid.specs.declared.FrameClass.TheVariants.{FixFix, FixVar, VarFix, VarVar}
 use Rattle.sbr_grid.specs.declared.SbrGrid.{SbrGrid}
-use Rattle.sbr_grid.specs.Grid.{by_class, first, view_of, record_of}
+use Rattle.sbr_grid.specs.Grid.{by_class, first, Grid, view_of, record_of}
 use Rattle.sbr_grid.proofs.Laws.{lengths}
-use Rattle.sbr_grid.specs.Times.{Times}
+use Rattle.sbr_grid.specs.Times.{Times, time_record}
+use Rattle.sbr_grid.specs.Refusals.{Outcome, result_map}
+use Rattle.sbr_grid.specs.declared.TimeGrid.{TimeGrid}
+use Rattle.sbr_time_grid.specs.TimeGrid.{time_grid}
+use Rattle.std.specs.Prelude.{Ok}
 use Rattle.sbr_qmf.specs.Qmf.{SampleAt}
 use Rattle.sbr_bands.specs.Tables.{spans}
 use Rattle.sbr_resolution.specs.Resolution.{elect_freq_res}
@@ -56,3 +60,8 @@ module _ (x : SampleAt) (high low : List ℕ) (grid : SbrGrid) (t : Times) (same
       let m : length t.t_e - 1 ≡ grid.num_env = omega arith in
       sym (ap record_of (by_other grid.frame_class (view_of grid) (with_freq_res (map (elect_freq_res x high low) (spans t.t_e)) (view_of grid)) k)
       ∙ rw (a, b, l.rel0, l.rel1, e, mapped_length, m))
+
+-- what is derived, where the record has the time grid t
+pub timed_by : (n : ℕ) (g : Grid) (t : Times) → time_grid n g ≡ Ok t → (d : Outcome TimeGrid) (r : TimeGrid) → d ≡ result_map time_record (time_grid n g) → d ≡ Ok r
+    → r ≡ time_record t
+timed_by n g t e d r h k = let q : ◌≡◌ {A = Outcome TimeGrid} (Ok r) (Ok (time_record t)) = sym k ∙ h ∙ ap (result_map time_record) e in cc

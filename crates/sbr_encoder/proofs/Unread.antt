@@ -1,4 +1,5 @@
 -- An election depends on the samples of the high table's bands alone, in the columns that are needed.
+use Rattle.std.specs.Prelude.{Ok, Err}
 use mathlib.Core.Path.{◌≡◌, refl}
 use mathlib.Core.Bool.{Bool}
 use mathlib.Core.List.{List}
@@ -7,7 +8,7 @@ use native.Mathlib.Omega.{arith}
 use lib.Dec.{leb}
 use lib.IntN.{ℤ}
 use lib.ListN.{length}
-use Rattle.sbr_grid.specs.Refusals.{Outcome, answered, refused, value_or}
+use Rattle.sbr_grid.specs.Refusals.{Outcome, value_or}
 use Rattle.sbr_grid.specs.Grid.{Grid, num_env_of}
 use Rattle.sbr_grid.specs.Times.{Times, is_slot_count}
 use Rattle.sbr_grid.proofs.Outcomes.{unless-same}
@@ -31,8 +32,8 @@ use Rattle.sbr_encoder.specs.Unread.{ElectionsUnread}
 module _ (n : ℕ) (high low : List ℕ) (x y : SampleAt) (f : Tables high low) (a : AlikeIn (n + 8) (entry high 0) (last_entry high) x y) where
   -- the resolutions of a grid, by what its time grid comes to
   resolved-same : (g d : Grid) (o : Outcome Times) → time_grid n g ≡ o → value_or (resolved x high low g) d o ≡ value_or (resolved y high low g) d o
-  resolved-same g d (refused e) q = refl
-  resolved-same g d (answered t) q =
+  resolved-same g d (Err e) q = refl
+  resolved-same g d (Ok t) q =
       let k : length t.t_e - 1 ≡ num_env_of g = omega (arith, (time_ends n g t q).count) in
       rw (mapped_same (elect_freq_res x high low) (elect_freq_res y high low) t.t_e 0 (length t.t_e - 1)
       (λ j h l. freq-res-same (n + 8) high x y f.high a _ (border_by n g t q (j + 1) (omega arith)) low))

@@ -1,8 +1,8 @@
 -- The election of a frame's grid: `elect_grid` of src/sbr_encoder.rs.
-use Rattle.std.specs.Prelude.{Bool, true, false, List, [], ◌∷◌, map, ℕ, leb, ℤ, length, Float}
+use Rattle.std.specs.Prelude.{Bool, true, false, List, [], ◌∷◌, map, ℕ, leb, ℤ, length, Float, Ok}
 use Rattle.sbr_grid.specs.declared.Refusal.TheVariants.{SlotCount, Samples, Tables}
-use Rattle.sbr_grid.specs.Refusals.{Outcome, answered, answer_of, value_or, unless}
-use Rattle.sbr_grid.specs.Grid.{by_class, Grid, made, record_of, empty}
+use Rattle.sbr_grid.specs.Refusals.{Outcome, value_or, unless}
+use Rattle.sbr_grid.specs.Grid.{by_class, Grid, made, record_of}
 use Rattle.sbr_grid.specs.Times.{Times, is_slot_count}
 use Rattle.sbr_time_grid.specs.TimeGrid.{time_grid}
 use Rattle.sbr_qmf.specs.Qmf.{SampleAt, columns, samples_needed}
@@ -49,12 +49,8 @@ elect n high low x previous variable =
     unless (is_slot_count n) SlotCount
     (unless (tables_fit high low) Tables
     (unless (leb (samples_needed n) (length x)) Samples
-    (answered (elected_of (columns x) high low n previous variable))))
+    (Ok (elected_of (columns x) high low n previous variable))))
 
 -- the struct that a program hands out for it
-abbrev pub election_of : Outcome Elected → Election
-election_of o = record {
-  answer = answer_of o;
-  grid = value_or (λ e. record_of e.grid) empty o;
-  transient = value_or (λ e. e.transient) false o;
-}
+abbrev pub election : Elected → Election
+election e = record { grid = record_of e.grid; transient = e.transient }

@@ -1,62 +1,47 @@
 // The election of a frame's grid: src/sbr_encoder.rs.
 #![tactic(auto)]
 
-ghost use Rattle.std.specs.Prelude.{◌≡◌, true, ◌+◌, get_or};
-ghost use Rattle.sbr_grid.specs.Refusals.{answered, refused};
+ghost use Rattle.std.specs.Prelude.{◌≡◌, true, ◌+◌, get_or, Ok};
+ghost use Rattle.std.specs.Float.{nan};
+ghost use Rattle.sbr_grid.specs.Refusals.{result_map};
 ghost use Rattle.sbr_grid.specs.Grid.{record_of, view_of};
 ghost use Rattle.sbr_grid.specs.Times.{Times, is_slot_count};
 ghost use Rattle.sbr_time_grid.specs.TimeGrid.{time_grid};
 ghost use Rattle.sbr_qmf.specs.Qmf.{columns};
-ghost use Rattle.std.specs.Float.{nan};
 ghost use Rattle.sbr_energy.specs.Energy.{slot_energies};
 ghost use Rattle.sbr_choice.specs.Choice.{chosen_grid};
 ghost use Rattle.sbr_bands.specs.Tables.{entry, last_entry};
 ghost use Rattle.sbr_onsets.specs.Onsets.{halves_alike, onsets_for, lead_for};
-ghost use Rattle.sbr_resolution.specs.Resolution.{Ready};
-ghost use Rattle.sbr_encoder.specs.Election.{has_onset, resolved, elected_of, elect, election_of};
+ghost use Rattle.sbr_encoder.specs.Election.{has_onset, resolved, elected_of, elect, election};
 
-use sbr_grid::{Answer, FrameClass, Refusal, SbrGrid};
+use sbr_bands::BandTables;
+use sbr_build::Frame;
+use sbr_grid::{FrameClass, Refusal, SbrGrid};
+use sbr_resolution::FrameSamples;
 
 // A grid, and whether the frame has an onset.
 #[derive(Clone, Copy)]
 pub struct Election {
-    pub answer: Answer,
     pub grid: SbrGrid,
     pub transient: bool,
 }
 
-// A grid before its resolutions are elected, and whether the frame has an onset.
-#[derive(Clone, Copy)]
-struct Choice {
-    grid: SbrGrid,
-    transient: bool,
-}
-
-fn refusal(why: Refusal) -> Election
-    ensures { result ≡ election_of (refused why) }
-{
-    Election {
-        answer: Answer::Refused(why),
-        grid: SbrGrid::empty(),
-        transient: false,
-    }
-}
-
 // The grid with the elected resolutions; FixFix keeps its own.
-fn resolved(x: &[f64], high: &[u8], low: &[u8], grid: SbrGrid, num_time_slots: usize) -> SbrGrid
-    requires { (record_of (view_of grid) ≡ grid) × ((t : Times) × (time_grid num_time_slots (view_of grid) ≡ answered t)) × Ready high.now low.now x.now (num_time_slots + 8) }
-    ensures { (t : Times) → time_grid num_time_slots (view_of grid) ≡ answered t → result ≡ record_of (resolved (columns x.now) high.now low.now (view_of grid) t) }
+fn resolved(samples: FrameSamples, grid: SbrGrid, num_time_slots: usize) -> SbrGrid
+    requires whole { record_of (view_of grid) ≡ grid }
+    requires timed { (t : Times) × (time_grid num_time_slots (view_of grid) ≡ Ok t) }
+    requires slots { samples.slots ≡ num_time_slots + 8 }
+    ensures { (t : Times) → time_grid num_time_slots (view_of grid) ≡ Ok t → result ≡ record_of (resolved (columns samples.entry.x.now) samples.entry.tables.high.now samples.entry.tables.low.now (view_of grid) t) }
 {
-    let class = grid.frame_class;
-    if let FrameClass::FixFix = class {
-        return grid;
-    }
-    let derived = sbr_time_grid::derive_time_grid(grid, num_time_slots);
-    let time = derived.time;
-    let t_e = time.t_e;
-    SbrGrid {
-        freq_res: sbr_resolution::resolutions(x, high, low, t_e, time.num_env),
-        ..grid
+    match grid.frame_class {
+        FrameClass::FixFix => grid,
+        _ => {
+            let time = sbr_time_grid::derive_time_grid(grid, num_time_slots).unwrap();
+            SbrGrid {
+                freq_res: samples.resolutions(time.borders()),
+                ..grid
+            }
+        }
     }
 }
 
@@ -66,7 +51,7 @@ fn choose(
     t_e_last_prev: i32,
     variable_borders: bool,
     num_time_slots: usize,
-) -> Choice
+) -> Election
     requires { is_slot_count num_time_slots ≡ true }
     ensures grid_value { result.grid ≡ record_of (chosen_grid variable_borders (halves_alike (λ i. get_or e.now i nan) num_time_slots) (onsets_for (λ i. get_or e.now i nan) num_time_slots) (lead_for num_time_slots t_e_last_prev) num_time_slots) }
     ensures transient_value { result.transient ≡ has_onset (onsets_for (λ i. get_or e.now i nan) num_time_slots) }
@@ -77,41 +62,44 @@ fn choose(
         even = sbr_onsets::halves_alike(e, num_time_slots);
     }
     let lead = sbr_onsets::lead_of(num_time_slots, t_e_last_prev);
-    Choice {
-        grid: sbr_choice::choose_grid(onsets, variable_borders, even, lead, num_time_slots as u32),
+    let frame = Frame {
+        nts: num_time_slots as u8,
+        lead: lead as u8,
+    };
+    Election {
+        grid: sbr_choice::choose_grid(onsets, variable_borders, even, frame),
         transient: 0 < onsets.count,
     }
 }
 
 // The energies of the slots over the bands of the high table.
-fn energies(x: &[f64], high: &[u8], low: &[u8], num_time_slots: usize) -> [f64; 24]
-    requires { (is_slot_count num_time_slots ≡ true) × Ready high.now low.now x.now (num_time_slots + 8) }
-    ensures { result ≡ slot_energies (columns x.now) (entry high.now 0) (last_entry high.now) (num_time_slots + 8) }
+fn energies(samples: FrameSamples, num_time_slots: usize) -> [f64; 24]
+    requires count { is_slot_count num_time_slots ≡ true }
+    requires slots { samples.slots ≡ num_time_slots + 8 }
+    ensures { result ≡ slot_energies (columns samples.entry.x.now) (entry samples.entry.tables.high.now 0) (last_entry samples.entry.tables.high.now) (num_time_slots + 8) }
 {
+    let high = samples.tables.high;
     let kx = high[0] as usize;
     let k_end = high[high.len() - 1] as usize;
-    sbr_energy::slot_energies(x, num_time_slots + 8, kx, k_end)
+    sbr_energy::slot_energies(samples.x, samples.slots, kx, k_end)
 }
 
 // The election where all tests are passed.
 fn elected(
-    x: &[f64],
-    high: &[u8],
-    low: &[u8],
+    samples: FrameSamples,
     t_e_last_prev: i32,
     variable_borders: bool,
     num_time_slots: usize,
 ) -> Election
-    requires { (is_slot_count num_time_slots ≡ true) × Ready high.now low.now x.now (num_time_slots + 8) }
-    ensures { result ≡ election_of (answered (elected_of (columns x.now) high.now low.now num_time_slots t_e_last_prev variable_borders)) }
+    requires count { is_slot_count num_time_slots ≡ true }
+    requires slots { samples.slots ≡ num_time_slots + 8 }
+    ensures { result ≡ election (elected_of (columns samples.entry.x.now) samples.entry.tables.high.now samples.entry.tables.low.now num_time_slots t_e_last_prev variable_borders) }
 {
-    let e = energies(x, high, low, num_time_slots);
+    let e = energies(samples, num_time_slots);
     let plan = choose(&e, t_e_last_prev, variable_borders, num_time_slots);
-    let grid = plan.grid;
     Election {
-        answer: Answer::Given,
-        grid: resolved(x, high, low, grid, num_time_slots),
-        transient: plan.transient,
+        grid: resolved(samples, plan.grid, num_time_slots),
+        ..plan
     }
 }
 
@@ -119,29 +107,13 @@ fn elected(
 // 16, then by the band tables, then where there are too few samples.
 pub fn elect_grid(
     x: &[f64],
-    high: &[u8],
-    low: &[u8],
+    tables: BandTables,
     t_e_last_prev: i32,
     variable_borders: bool,
     num_time_slots: usize,
-) -> Election
-    ensures { result ≡ election_of (elect num_time_slots high.now low.now x.now t_e_last_prev variable_borders) }
+) -> Result<Election, Refusal>
+    ensures { result ≡ result_map election (elect num_time_slots tables.entry.high.now tables.entry.low.now x.now t_e_last_prev variable_borders) }
 {
-    if !sbr_grid::is_slot_count(num_time_slots) {
-        return refusal(Refusal::SlotCount);
-    }
-    if !sbr_bands::tables_fit(high, low) {
-        return refusal(Refusal::Tables);
-    }
-    if x.len() < sbr_qmf::samples_needed(num_time_slots) {
-        return refusal(Refusal::Samples);
-    }
-    elected(
-        x,
-        high,
-        low,
-        t_e_last_prev,
-        variable_borders,
-        num_time_slots,
-    )
+    let samples = FrameSamples::new(x, tables, num_time_slots)?;
+    Ok(elected(samples, t_e_last_prev, variable_borders, num_time_slots))
 }

@@ -1,94 +1,106 @@
--- The ways out of `fit_rows`, `timed_rows` and `estimate_envelopes`, one law for each.
-use mathlib.Core.Path.{◌≡◌, refl, ap}
-use mathlib.Core.Bool.{Bool, true, false}
+-- The ways out of `fit_rows` and of `estimate_envelopes`, one law for each.
+use Rattle.std.specs.Prelude.{Ok, Err}
+use mathlib.Core.Path.{◌≡◌, refl, ◌∙◌}
+use mathlib.Core.Bool.{Bool, true, false, cond}
 use mathlib.Core.List.{List}
-use Prim.Native.Nat.{ℕ, ◌+◌, ◌-◌, ◌≤◌, ◌<◌}
-use native.Mathlib.Decide.{dec_le}
+use Prim.Native.Nat.{ℕ, ◌+◌, ◌≤◌, ◌<◌}
 use native.Mathlib.Omega.{arith}
 use borrow.Author.Tests.{le-leb, lt-leb}
+use lib.Dec.{leb}
 use lib.ListN.{length}
 use lib.Ieee.{Float}
 use Rattle.sbr_grid.specs.declared.Refusal.{Refusal}
-use Rattle.sbr_grid.specs.declared.Refusal.TheVariants.{SlotCount, Samples, Tables, Room}
+use Rattle.sbr_grid.specs.declared.Refusal.TheVariants.{SlotCount, Samples, Tables as NoTables, Room}
+use Rattle.sbr_grid.specs.Refusals.{Outcome, unless}
 use Rattle.sbr_grid.specs.declared.SbrGrid.{SbrGrid}
-use Rattle.sbr_grid.specs.Refusals.{Outcome, answered, refused}
-use Rattle.sbr_grid.specs.Grid.{first, Grid, view_of}
-use Rattle.sbr_time_grid.specs.declared.Derived.{Derived}
-use Rattle.sbr_grid.specs.Times.{Times, is_slot_count}
-use Rattle.sbr_time_grid.specs.TimeGrid.{time_grid, derived_of}
-use Rattle.sbr_qmf.specs.Qmf.{SampleAt, columns, samples_needed}
+use Rattle.sbr_grid.specs.declared.TimeGrid.{TimeGrid}
+use Rattle.sbr_grid.specs.Grid.{Grid, first, view_of}
+use Rattle.sbr_grid.specs.Times.{Times, time_record, is_slot_count}
+use Rattle.sbr_time_grid.specs.TimeGrid.{time_grid}
+use Rattle.sbr_qmf.specs.Qmf.{columns, samples_needed}
 use Rattle.sbr_bands.specs.Tables.{tables_fit, spans}
-use Rattle.sbr_envelopes.specs.Envelopes.{rows, rows_length, fitted, rows_of, energies, estimated_of, numbers_after}
-use Rattle.sbr_envelopes.specs.declared.Estimated.TheVariants.{Count, Refused}
-use Rattle.sbr_means.proofs.Places.{front_long}
-use Rattle.sbr_means.proofs.Spans.{spans-first}
-use Rattle.sbr_envelopes.proofs.Rows.{rows_long}
-use Rattle.sbr_resolution.proofs.Times.{derived, derived_count}
+use Rattle.sbr_bands.proofs.TableLaws.{Table, Tables}
+use Rattle.sbr_means.specs.Means.{Bands}
+use Rattle.sbr_resolution.specs.Resolution.{Bordered, framed}
+use Rattle.sbr_resolution.proofs.Times.{recorded, recorded_count, bordered}
+use Rattle.sbr_envelopes.specs.Envelopes.{rows, fitted, rows_of, energies}
 
--- a refusal keeps all numbers
-pub refuses : (o : Outcome (List Float)) (e : Refusal) (out : List Float) → o ≡ refused e → (Refused e ≡ estimated_of o) × (out ≡ numbers_after out o)
-refuses o e out p = rw p (refl, refl)
+-- the rows, as many numbers as were counted, have no room
+pub no_room : (es : List Float) (room count : ℕ) → length es ≡ count → room < count → fitted room es ≡ Err Room
+no_room es room count n h = rw (n, lt-leb count room h)
 
--- the rows have no room
-pub no_room : (es out : List Float) → length out < length es
-    → (Refused Room ≡ estimated_of (fitted (length out) es)) × (out ≡ numbers_after out (fitted (length out) es))
-no_room es out h = rw (lt-leb (length es) (length out) h) (refl, refl)
+-- they have room
+pub has_room : (es : List Float) (room count : ℕ) → length es ≡ count → count ≤ room → fitted room es ≡ Ok es
+has_room es room count n h = rw (n, le-leb count room h)
 
--- the rows have room
-pub has_room : (es out next : List Float) (count : ℕ) → count ≡ length es → length es ≤ length out → next ≡ numbers_after out (answered es)
-    → (Count count ≡ estimated_of (fitted (length out) es)) × (next ≡ numbers_after out (fitted (length out) es))
-has_room es out next count p h e = rw (le-leb (length es) (length out) h) (ap Count p, e)
+-- a table of either resolution
+pub record RowTable (t : List ℕ) : Type 0 where
+  pub some : 1 ≤ length t
+  pub few : length t ≤ 65
+  pub bands : Bands t
 
--- the list keeps its length
-pub fitted_long : (es out next : List Float) → next ≡ numbers_after out (fitted (length out) es) → length next ≡ length out
-fitted_long es out next e = elim (dec_le (length es) (length out)) [
-  | yes h ↦ front_long _ _ es out next refl h refl (rw (le-leb (length es) (length out) h) at e)
-  | no h ↦ ap length (rw (lt-leb (length es) (length out) (omega arith)) at e)
-]
+of_table : (t : List ℕ) (n : ℕ) → 1 ≤ n → Table t n → RowTable t
+of_table t n h b = record {
+  some = omega (arith, b.some);
+  few = b.few;
+  bands = record { climbing = λ j l. omega (arith, b.step j l); by64 = b.by64 };
+}
 
--- the same of what a time grid leads to
-pub rows_of_long : (x : SampleAt) (high low : List ℕ) (g : Grid) (o : Outcome Times) (out next : List Float)
-    → next ≡ numbers_after out (rows_of x high low g (length out) o) → length next ≡ length out
-rows_of_long x high low g (answered t) out next e = fitted_long (rows x high low g.freq_res (spans t.t_e)) out next e
-rows_of_long x high low g (refused w) out next e = ap length e
+pub row_table : (high low table : List ℕ) (b : Bool) → Tables high low → table ≡ cond b high low → RowTable table
+row_table high low table true t e = rw e (of_table high 2 (omega arith) t.high)
+row_table high low table false t e = rw e (of_table low 1 (omega arith) t.low)
 
--- the rows of the first k envelopes between the borders t
-abbrev pub rows_in : List ℕ → List ℕ → List Float → List Bool → List ℕ → ℕ → List Float
-rows_in high low x fr t k = rows (columns x) high low (first false k fr) (spans (first 0 (k + 1) t))
+-- where one of three tests is not passed what follows does not matter
+refused : {A B : Type 0} (a b c : Bool) (d e f g : Refusal) (o : Outcome A) (k : B) → unless a d (unless b e (unless c f (Ok k))) ≡ Err g
+    → unless a d (unless b e (unless c f o)) ≡ Err g
+refused true true true d e f g o k h = cc
+refused true true false d e f g o k h = cc
+refused true false c d e f g o k h = cc
+refused false b c d e f g o k h = cc
 
--- how many numbers they hold
-pub rows_count : (high low : List ℕ) (x : List Float) (fr : List Bool) (t : List ℕ) (k : ℕ)
-    → length (rows_in high low x fr t k) ≡ rows_length (first false k fr) (length high - 1) (length low - 1)
-rows_count high low x fr t k = rw spans-first (rows_long (columns x) high low fr t k)
+-- where all are passed what follows stands
+passed : {A B : Type 0} (a b c : Bool) (d e f : Refusal) (o : Outcome A) (k m : B) → unless a d (unless b e (unless c f (Ok k))) ≡ Ok m
+    → (unless a d (unless b e (unless c f o)) ≡ o) × (m ≡ k)
+passed true true true d e f o k m h = (refl, cc)
+passed true true false d e f o k m h = cc
+passed true false c d e f o k m h = cc
+passed false b c d e f o k m h = cc
 
--- the record has no time grid
-pub no_time : (x : SampleAt) (high low : List ℕ) (g : Grid) (room : ℕ) (o : Outcome Times) (w : Refusal) → o ≡ refused w → rows_of x high low g room o ≡ refused w
-no_time x high low g room o w p = rw p
-
--- the rows of what was derived from a record are those of its view
-pub rows-timed : (high low : List ℕ) (x : List Float) (grid : SbrGrid) (n : ℕ) (t : Times) (d : Derived) → time_grid n (view_of grid) ≡ answered t
-    → d ≡ derived_of (time_grid n (view_of grid)) → (room : ℕ)
-    → rows_of (columns x) high low (view_of grid) room (time_grid n (view_of grid)) ≡ fitted room (rows_in high low x grid.freq_res d.time.t_e d.time.num_env)
-rows-timed high low x grid n t d p q room = rw (p, (derived n grid t d p q).borders, derived_count n grid t d p q)
-
-module _ (high low : List ℕ) (x : List Float) (grid : SbrGrid) (n room : ℕ) where
-  -- the slot count is none
-  pub no_slots : is_slot_count n ≡ false → energies n high low x (view_of grid) room ≡ refused SlotCount
+module _ (n : ℕ) (high low : List ℕ) (x : List Float) (g : Grid) (room : ℕ) where
+  -- the frame is refused
+  pub frame-refused : (e : Refusal) → framed n high low x ≡ Err e → energies n high low x g room ≡ Err e
   unfolding energies
-  no_slots e = rw e
+  frame-refused e h = refused (is_slot_count n) (tables_fit high low) (leb (samples_needed n) (length x)) SlotCount NoTables Samples e (rows_of (columns x) high low g room (time_grid n g)) (n + 8) h
 
-  -- the tables do not fit
-  pub no-tables : is_slot_count n ≡ true → tables_fit high low ≡ false → energies n high low x (view_of grid) room ≡ refused Tables
+  -- there is a frame
+  pub frame-made : (m : ℕ) → framed n high low x ≡ Ok m → (energies n high low x g room ≡ rows_of (columns x) high low g room (time_grid n g)) × (m ≡ n + 8)
   unfolding energies
-  no-tables e f = rw (e, f)
+  frame-made m h = passed (is_slot_count n) (tables_fit high low) (leb (samples_needed n) (length x)) SlotCount NoTables Samples (rows_of (columns x) high low g room (time_grid n g)) (n + 8) m h
 
-  -- there are too few samples
-  pub no-samples : is_slot_count n ≡ true → tables_fit high low ≡ true → length x < samples_needed n → energies n high low x (view_of grid) room ≡ refused Samples
-  unfolding energies
-  no-samples e f h = rw (e, f, lt-leb (samples_needed n) (length x) h)
+  -- it has no time grid
+  pub time-refused : (m : ℕ) (e : Refusal) → framed n high low x ≡ Ok m → time_grid n g ≡ Err e → energies n high low x g room ≡ Err e
+  time-refused m e h t = (frame-made m h).0 ∙ rw t
 
-  -- the tests of the call are passed
-  pub passed : is_slot_count n ≡ true → tables_fit high low ≡ true → samples_needed n ≤ length x
-      → energies n high low x (view_of grid) room ≡ rows_of (columns x) high low (view_of grid) room (time_grid n (view_of grid))
-  unfolding energies
-  passed e f h = rw (e, f, le-leb (samples_needed n) (length x) h)
+  -- it has one
+  pub time-made : (m : ℕ) (t : Times) → framed n high low x ≡ Ok m → time_grid n g ≡ Ok t → energies n high low x g room ≡ fitted room (rows (columns x) high low g.freq_res (spans t.t_e))
+  time-made m t h e = (frame-made m h).0 ∙ rw e
+
+-- a record of envelopes and its time grid
+pub record Made (n : ℕ) (grid : SbrGrid) (t : Times) (r : TimeGrid) : Type 0 where
+  pub few : grid.num_env ≤ 5
+  pub count : r.num_env ≡ grid.num_env
+  pub borders : first 0 (r.num_env + 1) r.t_e ≡ t.t_e
+  pub long : length t.t_e ≡ grid.num_env + 1
+  pub within : Bordered t.t_e (n + 8)
+
+pub made : (n : ℕ) (grid : SbrGrid) (t : Times) (r : TimeGrid) → time_grid n (view_of grid) ≡ Ok t → r ≡ time_record t → Made n grid t r
+made n grid t r e f =
+    let s = recorded n (view_of grid) t r e f in
+    let k = recorded_count n grid t r e f in
+    record {
+      few = omega (arith, s.few, k);
+      count = k;
+      borders = s.borders;
+      long = omega (arith, s.count, k);
+      within = bordered n (view_of grid) t e;
+    }

@@ -1,4 +1,5 @@
 -- Laws of rows: their length, the borders between them, and one envelope more.
+use Rattle.std.specs.Prelude.{Ok}
 use mathlib.Core.Path.{◌≡◌, refl, sym, ◌∙◌}
 use mathlib.Core.Bool.{Bool, true, false, cond}
 use mathlib.Core.List.{List, [], ◌∷◌, ◌++◌, append_assoc, append-nil}
@@ -8,21 +9,28 @@ use native.Mathlib.Numerals.{add-one}
 use native.Mathlib.Omega.{arith}
 use lib.ListN.{length, get_or, take, drop, length-append, length-drop}
 use lib.Seq.{take_at, drop-append-add, drop-drop}
+use Rattle.std.specs.List.{sum_by}
+use Rattle.std.proofs.lemmas.List.Recursion.{is_sum_by}
+use borrow.Rule.Slice.PartMut.{put_mid}
 use lib.Ieee.{Float}
-use Rattle.sbr_grid.specs.Refusals.{answered}
 use Rattle.sbr_grid.specs.Grid.{first}
-use Rattle.sbr_grid.proofs.First.{first_next, first-length}
+use Rattle.sbr_grid.proofs.First.{first_next, first-length, first_all}
 use Rattle.sbr_qmf.specs.Qmf.{SampleAt}
 use Rattle.sbr_bands.specs.Tables.{entry, Span, spans_from, spans}
 use Rattle.sbr_means.specs.Means.{mean_in}
-use Rattle.sbr_envelopes.specs.Envelopes.{row, rows, rows_length, numbers_after}
-use Rattle.sbr_means.proofs.Spans.{spans-length, spans_more, spans-first, mapped_length}
+use Rattle.sbr_envelopes.specs.Envelopes.{row, rows, sum_of, row_lengths, rows_length, numbers_after}
+use Rattle.sbr_means.proofs.Spans.{spans-length, spans_more, mapped_length}
 
 -- the numbers of one envelope more
 row_more : (fs : List Bool) (f : Bool) (h l : ℕ) → rows_length (fs ++ (f ∷ [])) h l ≡ rows_length fs h l + cond f h l
 unfolding rows_length
 row_more [] f h l = omega arith
 row_more (g ∷ fs) f h l = omega (arith, row_more fs f h l)
+
+-- as the code sums them
+pub rows_sum : (fs : List Bool) (h l : ℕ) → sum_by (λ f. cond f h l) fs ≡ rows_length fs h l
+unfolding rows_length
+rows_sum fs h l = sym (is_sum_by (λ gs. sum_of (row_lengths h l gs)) (λ f. cond f h l) refl (λ g gs. refl) fs)
 
 -- no envelope has no numbers
 pub length_none : (h l : ℕ) → 0 ≡ rows_length [] h l
@@ -58,6 +66,11 @@ module _ (x : SampleAt) (high low : List ℕ) where
   rows-length (f ∷ fs) [] n = absurd (omega arith)
   rows-length (true ∷ fs) (e ∷ es) n = rw length-append (omega (arith, rows-length fs es (omega arith), mapped_length (mean_in x e) high 0 (length high - 1)))
   rows-length (false ∷ fs) (e ∷ es) n = rw length-append (omega (arith, rows-length fs es (omega arith), mapped_length (mean_in x e) low 0 (length low - 1)))
+
+  -- as the code counts them
+  pub rows-counted : (fs : List Bool) (t : List ℕ) → length t ≡ length fs + 1
+      → length (rows x high low fs (spans t)) ≡ sum_by (λ f. cond f (length high - 1) (length low - 1)) fs
+  rows-counted fs t n = rows-length fs (spans t) (omega (arith, spans-length t 0 (length t - 1))) ∙ sym (rows_sum fs (length high - 1) (length low - 1))
 
   -- a row more at the end
   rows_end : (fs : List Bool) (es : List Span) (f : Bool) (e : Span) → length fs ≡ length es
@@ -128,6 +141,23 @@ module _ (x : SampleAt) (high low : List ℕ) (fr : List Bool) (t : List ℕ) (u
           numbers = rw (f, s.numbers, take_at (rows_to x high low fr t n) (drop at u) at l, d, rows_more x high low fr t n, e, append_assoc);
         }
 
+    -- the same with the table that the code takes: there is room for its row, and it is one more
+    pub row-room : (table : List ℕ) → table ≡ cond (get_or fr n false) high low → n < length fr
+        → rows_length fr (length high - 1) (length low - 1) ≤ length u → at + (length table - 1) ≤ length out
+    row-room table e h r =
+        let whole : first false (length fr) fr ≡ fr = first_all false fr in
+        rw e (filled-room (length fr) (get_or fr n false) refl h (rw whole r))
+
+    pub row-stored : (table : List ℕ) (means : List Float) → table ≡ cond (get_or fr n false) high low
+        → means ≡ row x table (record { from = entry t n; to = entry t (n + 1) })
+        → Filled x high low fr t u (n + 1) (at + (length table - 1)) (put_mid at (at + (length table - 1) - at) out means)
+    row-stored table means e f =
+        let k : at + (length table - 1) - at ≡ length table - 1 = omega arith in
+        rw (e, rw e at f, rw e at k, drop-drop) (filled_more (get_or fr n false) _ refl refl)
+
     -- the rows of all envelopes
-    pub filled-all : out ≡ numbers_after u (answered (rows x high low (first false n fr) (spans (first 0 (n + 1) t))))
-    filled-all = rw (spans-first t n, rows_long x high low fr t n, ← s.place) s.numbers
+    pub filled-all : n ≡ length fr → length t ≡ n + 1 → out ≡ numbers_after u (Ok (rows x high low fr (spans t)))
+    filled-all e h =
+        let k : length t - 1 ≡ n = omega arith in
+        let whole : first false n fr ≡ fr = rw e (first_all false fr) in
+        rw (k, ← whole, rows_long x high low fr t n, ← s.place) s.numbers

@@ -1,4 +1,5 @@
 -- Energies depend on the samples of the high table's bands alone, in the columns that are needed.
+use Rattle.std.specs.Prelude.{Ok, Err}
 use mathlib.Core.Path.{◌≡◌, refl}
 use mathlib.Core.Bool.{Bool, true, false, cond}
 use mathlib.Core.List.{List, [], ◌∷◌}
@@ -6,7 +7,7 @@ use Prim.Native.Nat.{ℕ, zero, suc, ◌+◌, ◌-◌, ◌≤◌}
 use native.Mathlib.Omega.{arith}
 use lib.Dec.{leb}
 use lib.ListN.{length}
-use Rattle.sbr_grid.specs.Refusals.{Outcome, answered, refused}
+use Rattle.sbr_grid.specs.Refusals.{Outcome}
 use Rattle.sbr_grid.specs.Grid.{Grid, num_env_of}
 use Rattle.sbr_grid.specs.Times.{Times, is_slot_count}
 use Rattle.sbr_grid.proofs.Outcomes.{unless-same}
@@ -42,8 +43,8 @@ module _ (t : ℕ) (high low : List ℕ) (x y : SampleAt) (f : Tables high low) 
 -- by what the time grid comes to
 timed-same : (n : ℕ) (high low : List ℕ) (x y : SampleAt) (g : Grid) (room : ℕ) (o : Outcome Times) → Tables high low → AlikeIn (n + 8) (entry high 0) (last_entry high) x y
     → time_grid n g ≡ o → rows_of x high low g room o ≡ rows_of y high low g room o
-timed-same n high low x y g room (refused e) f a q = refl
-timed-same n high low x y g room (answered t) f a q =
+timed-same n high low x y g room (Err e) f a q = refl
+timed-same n high low x y g room (Ok t) f a q =
     let k : length t.t_e - 1 ≡ num_env_of g = omega (arith, (time_ends n g t q).count) in
     rw (rows_same (n + 8) high low x y f a g.freq_res t.t_e 0 (length t.t_e - 1) (λ j h. border_by n g t q j (omega arith)))
 

@@ -1,15 +1,13 @@
 -- Energies of envelopes: `estimate_envelopes` of src/sbr_encoder.rs.
-use Rattle.std.specs.Prelude.{Bool, cond, List, [], ◌∷◌, ◌++◌, map, ℕ, ◌+◌, leb, length, drop, Float}
+use Rattle.std.specs.Prelude.{Bool, cond, List, [], ◌∷◌, ◌++◌, map, ℕ, ◌+◌, leb, length, drop, Float, Ok, Err}
 use Rattle.sbr_grid.specs.declared.Refusal.TheVariants.{SlotCount, Samples, Tables, Room}
-use Rattle.sbr_grid.specs.Refusals.{Outcome, answered, refused, value_or, unless}
+use Rattle.sbr_grid.specs.Refusals.{Outcome, unless}
 use Rattle.sbr_grid.specs.Grid.{Grid}
 use Rattle.sbr_grid.specs.Times.{Times, is_slot_count}
 use Rattle.sbr_time_grid.specs.TimeGrid.{time_grid}
 use Rattle.sbr_qmf.specs.Qmf.{SampleAt, columns, samples_needed}
 use Rattle.sbr_bands.specs.Tables.{tables_fit, Span, spans}
 use Rattle.sbr_means.specs.Means.{mean_in}
-use Rattle.sbr_envelopes.specs.declared.Estimated.{Estimated}
-use Rattle.sbr_envelopes.specs.declared.Estimated.TheVariants.{Count, Refused}
 
 -- a mean for each band of a table, lowest first
 abbrev pub row : SampleAt → List ℕ → Span → List Float
@@ -36,11 +34,11 @@ rows_length fs highBands lowBands = sum_of (row_lengths highBands lowBands fs)
 
 -- a list of numbers, those of the rows or others, where there is room for as many
 abbrev pub fitted : {A : Type 0} → ℕ → List A → Outcome (List A)
-fitted room es = unless (leb (length es) room) Room (answered es)
+fitted room es = unless (leb (length es) room) Room (Ok es)
 
 abbrev pub rows_of : SampleAt → List ℕ → List ℕ → Grid → ℕ → Outcome Times → Outcome (List Float)
-rows_of x high low g room (answered t) = fitted room (rows x high low g.freq_res (spans t.t_e))
-rows_of x high low g room (refused e) = refused e
+rows_of x high low g room (Ok t) = fitted room (rows x high low g.freq_res (spans t.t_e))
+rows_of x high low g room (Err e) = Err e
 
 unfoldable pub energies : ℕ → List ℕ → List ℕ → List Float → Grid → ℕ → Outcome (List Float)
 energies n high low x g room =
@@ -49,10 +47,7 @@ energies n high low x g room =
     (unless (leb (samples_needed n) (length x)) Samples
     (rows_of (columns x) high low g room (time_grid n g))))
 
--- the enum that a program hands out for it, and the numbers after: those past the rows, and all after a refusal, as they were
-abbrev pub estimated_of : Outcome (List Float) → Estimated
-estimated_of (answered es) = Count (length es)
-estimated_of (refused e) = Refused e
-
+-- the numbers after it: those past the rows, and all after a refusal, as they were
 abbrev pub numbers_after : {A : Type 0} → List A → Outcome (List A) → List A
-numbers_after out o = value_or (λ es. es ++ drop (length es) out) out o
+numbers_after out (Ok es) = es ++ drop (length es) out
+numbers_after out (Err e) = out

@@ -6,10 +6,13 @@ use mathlib.Core.Bool.{true, false}
 use native.Mathlib.Decide.{dec_le}
 use native.Mathlib.Nat.{le_trans, lt_of_le_of_lt, lt_of_lt_of_le, mul_assoc, mul_comm, mul_left_comm, mul_right_comm, mul-add, pow-le-pow_left, one-le-pow, mul-le-mul_right, mul-le-mul_left, le_of_mul-le-mul_right, mul-pos}
 use native.Mathlib.Omega.{arith}
-use lib.Dec.{leb}
+use lib.Dec.{leb, lit≤, lit<}
+use Rattle.std.specs.Prelude.{count_by, [], ◌∷◌}
+use Rattle.sbr_quantise.specs.Octaves.{parts}
 use lib.Pow.{pow-add, pow_pos, pow_mono}
 use borrow.Author.Tests.{le-leb, lt-leb, leb-true}
-use Rattle.sbr_floats.proofs.Powers.{mul-pow, pow-pow}
+use Rattle.std.proofs.lemmas.Nat.{mul-pow}
+use Rattle.sbr_floats.proofs.Powers.{pow-pow}
 use Rattle.sbr_quantise.specs.Quantise.{attains, last_up_to}
 use Rattle.sbr_quantise.specs.Largest.{Largest}
 use Rattle.sbr_quantise.proofs.Largest.{not_leb, Meets, lowest, attained, not-met, last-passes, last-most}
@@ -88,3 +91,35 @@ at_edge p u j edge t h r = le-leb _ _ (le_trans r (mul-le-mul_left 2 (pow-le-pow
 
 pub under_edge : (p u j edge t : ℕ) → t < edge → 2 * (u + edge - 1) ^ p < 2 ^ (2 * j) * u ^ p → attains p (u + t) u j ≡ false
 under_edge p u j edge t h s = lt-leb _ _ (lt_of_le_of_lt (mul-le-mul_left 2 (pow-le-pow_left {n = u + t} {m = u + edge - 1} (omega arith) p)) s)
+
+-- ---- the code's edges: as many of them as a part has reached are attained
+
+pub coarse_is : (t : ℕ) → count_by (λ e. leb e t) (1865452045155277 ∷ []) ≡ last_up_to (attains 2 (parts + t) parts) 1
+unfolding last_up_to
+coarse_is t = elim (dec_le 1865452045155277 t) [
+  | yes h ↦ rw (le-leb 1865452045155277 t h, at_edge 2 parts 1 1865452045155277 t h (lit≤ tt))
+  | no h ↦ rw (lt-leb 1865452045155277 t (omega arith), under_edge 2 parts 1 1865452045155277 t (omega arith) (lit< tt))
+]
+
+pub fine_is : (t : ℕ) → count_by (λ e. leb e t) (852113092622102 ∷ 3070521937417134 ∷ []) ≡ last_up_to (attains 4 (parts + t) parts) 2
+unfolding last_up_to
+fine_is t = elim (dec_le 3070521937417134 t) [
+  | yes h ↦
+      rw (le-leb 852113092622102 t (omega arith), le-leb 3070521937417134 t h, at_edge 4 parts 2 3070521937417134 t h (lit≤ tt))
+  | no h ↦ elim (dec_le 852113092622102 t) [
+    | yes g ↦
+        rw (
+          le-leb 852113092622102 t g,
+          lt-leb 3070521937417134 t (omega arith),
+          under_edge 4 parts 2 3070521937417134 t (omega arith) (lit< tt),
+          at_edge 4 parts 1 852113092622102 t g (lit≤ tt),
+        )
+    | no g ↦
+        rw (
+          lt-leb 852113092622102 t (omega arith),
+          lt-leb 3070521937417134 t (omega arith),
+          under_edge 4 parts 2 3070521937417134 t (omega arith) (lit< tt),
+          under_edge 4 parts 1 852113092622102 t (omega arith) (lit< tt),
+        )
+  ]
+]

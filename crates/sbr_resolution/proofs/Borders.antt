@@ -20,8 +20,3 @@ borders_le t (suc n) h l p = elim (dec_le l n) [
 -- samples for a border are samples for one before it
 pub ready_before : (high low : List ℕ) (x : List Float) (a b : ℕ) → Ready high low x b → a ≤ b → Ready high low x a
 ready_before high low x a b r h = record { tables = r.tables; inside = omega (arith, r.inside); enough = omega (arith, r.enough) }
-
--- samples for the last of these borders are samples for each
-pub ready_upto : (high low : List ℕ) (x : List Float) (t : List ℕ) (n : ℕ) → ((l : ℕ) → l < n → entry t l ≤ entry t (l + 1)) → Ready high low x (entry t n)
-    → (l : ℕ) → l ≤ n → Ready high low x (entry t l)
-ready_upto high low x t n h r l p = ready_before high low x (entry t l) (entry t n) r (borders_le t n h l p)

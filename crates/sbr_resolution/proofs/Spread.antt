@@ -1,13 +1,13 @@
 -- Laws of the spread of means: the largest and the smallest, one mean more, and the ways that the test ends.
 use mathlib.Core.Path.{◌≡◌, refl}
-use mathlib.Core.Bool.{Bool, true, false}
+use mathlib.Core.Bool.{true, false}
 use mathlib.Core.List.{List, [], ◌∷◌, ◌++◌}
 use Prim.Native.Nat.{ℕ, ◌+◌, ◌≤◌, ◌<◌}
 use native.Mathlib.Numerals.{add-one}
 use native.Mathlib.Omega.{arith}
 use borrow.Author.Tests.{lt-ltb, le-ltb}
 use lib.ListN.{length, get_or, take}
-use lib.Seq.{take-suc, take_at}
+use lib.Seq.{take-suc}
 use lib.Ieee as Ieee
 use lib.Ieee.{Float, nan, inf, binary64, of_bits}
 use Rattle.sbr_floats.specs.Floats.{zero64, max_of, min_of, spread_is_high}
@@ -42,9 +42,8 @@ pub largest_none : zero64 ≡ largest_from zero64 []
 unfolding largest_from
 largest_none = refl
 
--- 1.0 / 0.0 is infinity
-pub smallest_none : Ieee.div binary64 (of_bits binary64 0x3ff0_0000_0000_0000) zero64 ≡ smallest_from (inf false) []
-unfolding smallest_from Ieee.div of_bits
+pub smallest_none : of_bits binary64 0x7ff0_0000_0000_0000 ≡ smallest_from (inf false) []
+unfolding smallest_from of_bits
 smallest_none = refl
 
 -- neither is a NaN
@@ -52,13 +51,9 @@ pub largest_number : Ieee.is_nan zero64 ≡ false
 unfolding Ieee.is_nan of_bits
 largest_number = refl
 
-pub smallest_number : Ieee.is_nan (Ieee.div binary64 (of_bits binary64 0x3ff0_0000_0000_0000) zero64) ≡ false
-unfolding Ieee.is_nan Ieee.div of_bits
+pub smallest_number : Ieee.is_nan (of_bits binary64 0x7ff0_0000_0000_0000) ≡ false
+unfolding Ieee.is_nan of_bits
 smallest_number = refl
-
--- the test looks at the numbers in front alone
-pub spread_front : (k : ℕ) (ms u v : List Float) (r : Bool) → length ms ≡ k → v ≡ ms ++ u → r ≡ is_spread (take k v) → r ≡ is_spread ms
-spread_front k ms u v r n e h = rw (e, take_at ms u k n) at h
 
 -- fewer than two means are not spread
 pub spread_few : (ms : List Float) → length ms < 2 → false ≡ is_spread ms

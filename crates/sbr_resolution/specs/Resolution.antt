@@ -1,8 +1,11 @@
 -- Resolutions of envelopes: `elect_freq_res` of src/sbr_encoder.rs.
-use Rattle.std.specs.Prelude.{◌≡◌, Bool, true, false, cond, ◌&&◌, ◌||◌, List, [], ◌∷◌, map, ℕ, ◌+◌, ◌*◌, ◌≤◌, leb, ltb, length, Float}
+use Rattle.std.specs.Prelude.{◌≡◌, Bool, true, false, cond, ◌&&◌, ◌||◌, List, [], ◌∷◌, map, ℕ, ◌+◌, ◌-◌, ◌*◌, ◌≤◌, ◌<◌, leb, ltb, length, get_or, Float, Ok}
 use Rattle.std.specs.Float.Ieee as Ieee
 use Rattle.std.specs.Float.{inf, binary64}
-use Rattle.sbr_qmf.specs.Qmf.{SampleAt}
+use Rattle.sbr_grid.specs.declared.Refusal.TheVariants.{SlotCount, Samples, Tables}
+use Rattle.sbr_grid.specs.Refusals.{Outcome, unless}
+use Rattle.sbr_grid.specs.Times.{is_slot_count}
+use Rattle.sbr_qmf.specs.Qmf.{SampleAt, samples_needed}
 use Rattle.sbr_floats.specs.Floats.{zero64, floor64, max_of, min_of, spread_is_high}
 use Rattle.sbr_bands.specs.Tables.{tables_fit, Span, spans}
 use Rattle.sbr_means.specs.Means.{mean_in}
@@ -12,6 +15,18 @@ pub record Ready (high low : List ℕ) (x : List Float) (t : ℕ) : Type 0 where
   pub tables : tables_fit high low ≡ true
   pub inside : t ≤ 24
   pub enough : (2 * t + 2) * 128 ≤ length x
+
+-- borders of one to five envelopes, none below the one before it, the last within the slots
+pub record Bordered (t : List ℕ) (slots : ℕ) : Type 0 where
+  pub some : 1 ≤ length t
+  pub few : length t ≤ 6
+  pub rising : (l : ℕ) → l + 1 < length t → get_or t l 0 ≤ get_or t (l + 1) 0
+  pub inside : get_or t (length t - 1) 0 ≤ slots
+
+-- the tests of a call: the slots that there are samples for
+abbrev pub framed : ℕ → List ℕ → List ℕ → List Float → Outcome ℕ
+framed n high low x =
+    unless (is_slot_count n) SlotCount (unless (tables_fit high low) Tables (unless (leb (samples_needed n) (length x)) Samples (Ok (n + 8))))
 
 -- the bands that lie inside another
 unfoldable pub inside : Span → List Span → List Span

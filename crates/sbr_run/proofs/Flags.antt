@@ -1,9 +1,10 @@
 -- The flag over a list of readings, whatever bytes are read.
+use Rattle.std.specs.Prelude.{Ok, Err}
 use mathlib.Core.Path.{◌≡◌, refl, sym, ap, ◌∙◌}
 use mathlib.Core.Bool.{Bool}
 use mathlib.Core.List.{List, [], ◌∷◌, map}
 use Prim.Native.Nat.{ℕ}
-use Rattle.sbr_grid.specs.Refusals.{Outcome, answered, refused}
+use Rattle.sbr_grid.specs.Refusals.{Outcome}
 use Rattle.sbr_reader.specs.Read.{Accepted, carrying}
 use Rattle.sbr_reader.proofs.Told.{told_frame}
 use Rattle.sbr_run.specs.Run.{Terms, frame_of, frames_from}
@@ -16,8 +17,8 @@ record More (r : Terms) (c : Receiver) (rs : List Reading) (o : Outcome Accepted
 
 more : (r : Terms) (n : ℕ) (bytes : List ℕ) (c : Receiver) (x : Reading) (rs : List Reading) (o : Outcome Accepted) → reading x ≡ o → OwnReading n bytes c x o
     → FlagsFollow r (heard c o) rs → More r c rs o
-more r n bytes c x rs (refused e) q own d = record { begin = d.begin; left = d.left }
-more r n bytes c x rs (answered f) q own d =
+more r n bytes c x rs (Err e) q own d = record { begin = d.begin; left = d.left }
+more r n bytes c x rs (Ok f) q own d =
     let t = told_frame bytes c.position n (carrying c.border c.attack) f (ap reading (sym own) ∙ q) in
     let rest = d.begin ∙ ap (λ (a : Bool). frames_from r a (map sent_of (read rs))) t.ends in
     record {

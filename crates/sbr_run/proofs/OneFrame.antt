@@ -1,4 +1,5 @@
 -- One frame: what a turn that answers says, and that a receiver which stands at its bits reads it.
+use Rattle.std.specs.Prelude.{Ok, Err}
 use mathlib.Core.Path.{◌≡◌, refl, sym, ap, ◌∙◌, subst}
 use mathlib.Core.Bool.{Bool, true, false}
 use mathlib.Core.List.{List, ◌++◌}
@@ -8,7 +9,7 @@ use borrow.Author.Tests.{le-ltb}
 use lib.IntN.{pos}
 use lib.ListN.{length, get_or}
 use Rattle.bits.specs.Room.{bits_from}
-use Rattle.sbr_grid.specs.Refusals.{Outcome, answered, refused}
+use Rattle.sbr_grid.specs.Refusals.{Outcome}
 use Rattle.sbr_grid.specs.Grid.{Grid, num_env_of}
 use Rattle.sbr_grid.specs.Times.{Times, is_slot_count}
 use Rattle.sbr_time_grid.specs.TimeGrid.{time_grid}
@@ -29,23 +30,24 @@ use Rattle.sbr_run.specs.Term3.{SoundChoice}
 -- ---- a turn that answers
 
 -- the call before the next one answered
-pub next_answered : {A B : Type 0} (o : Outcome A) (f : A → Outcome B) (b : B) → next o f ≡ answered b → (a : A) × (o ≡ answered a) × (f a ≡ answered b)
-next_answered (answered a) f b e = (a, refl, e)
-next_answered (refused r) f b e = let z : ◌≡◌ {A = ℕ} 0 1 = cc in absurd (omega arith)
+pub next_answered : {A B : Type 0} (o : Outcome A) (f : A → Outcome B) (b : B) → next o f ≡ Ok b → (a : A) × (o ≡ Ok a) × (f a ≡ Ok b)
+next_answered (Ok a) f b e = (a, refl, e)
+next_answered (Err r) f b e = let z : ◌≡◌ {A = ℕ} 0 1 = cc in absurd (omega arith)
 
 pub record Calls (t : Turn) (a : Turned) : Type 0 where
   pub elected : Elected
-  pub chose : t.chosen ≡ answered elected
+  pub chose : t.chosen ≡ Ok elected
   pub same : elected.grid ≡ a.sent.grid
-  pub times : time_grid t.time_slots a.sent.grid ≡ answered a.sent.time
-  pub writes : write_grid t.bytes t.position a.sent.grid ≡ answered a.wrote
+  pub times : time_grid t.time_slots a.sent.grid ≡ Ok a.sent.time
+  pub writes : write_grid t.bytes t.position a.sent.grid ≡ Ok a.wrote
 
-last_call : (g : Grid) (tm : Times) (b : Bool) (w : Wrote) (a : Turned) → answered (record { sent = record { grid = g; time = tm }; transient = b; wrote = w }) ≡ answered a
+last_call : (g : Grid) (tm : Times) (b : Bool) (w : Wrote) (a : Turned)
+    → ◌≡◌ {A = Outcome Turned} (Ok (record { sent = record { grid = g; time = tm }; transient = b; wrote = w })) (Ok a)
     → ◌≡◌ {A = Turned} (record { sent = record { grid = g; time = tm }; transient = b; wrote = w }) a
 last_call g tm b w a e = cc
 
 -- the three calls of a turn that answers
-pub calls : (t : Turn) (a : Turned) → turn t ≡ answered a → Calls t a
+pub calls : (t : Turn) (a : Turned) → turn t ≡ Ok a → Calls t a
 unfolding turn
 calls t a e =
     let p = next_answered {A = Elected} _ _ a e in
@@ -57,8 +59,8 @@ calls t a e =
       elected = p.0;
       chose = p.1;
       same = g;
-      times = ap (time_grid t.time_slots) (sym g) ∙ q.1 ∙ ap (λ (x : Turned). answered x.sent.time) l;
-      writes = ap (write_grid t.bytes t.position) (sym g) ∙ r.1 ∙ ap (λ (x : Turned). answered x.wrote) l;
+      times = ap (time_grid t.time_slots) (sym g) ∙ q.1 ∙ ap (λ (x : Turned). Ok x.sent.time) l;
+      writes = ap (write_grid t.bytes t.position) (sym g) ∙ r.1 ∙ ap (λ (x : Turned). Ok x.wrote) l;
     }
 
 -- ---- a frame that a receiver can read
@@ -67,7 +69,7 @@ calls t a e =
 pub record Good (n b : ℕ) (f : Sent) : Type 0 where
   pub slots : is_slot_count n ≡ true
   pub frame_meets : Meets n b f
-  pub reads : (rest : List Bool) → sbr_grid (grid_bits f.grid ++ rest) ≡ answered (f.grid, rest)
+  pub reads : (rest : List Bool) → sbr_grid (grid_bits f.grid ++ rest) ≡ Ok (f.grid, rest)
   pub last : get_or f.time.t_e (num_env_of f.grid) 0 ≡ last_border f.time
   pub clear : marks_end f.grid f.time ≡ false
 
@@ -84,7 +86,7 @@ got f a q = record {
 
 -- a receiver that stands at its bits, with the border that it meets and any flag, reads it
 pub read_ok : (n b : ℕ) (a : Bool) (q : ℕ) (bytes : List ℕ) (f : Sent) (rest : List Bool) → Good n b f → bits_from bytes q ≡ grid_bits f.grid ++ rest
-    → read_grid bytes q n (carrying b a) ≡ answered (got f a q)
+    → read_grid bytes q n (carrying b a) ≡ Ok (got f a q)
 read_ok n b a q bytes f rest h e =
     let m = h.frame_meets in
     record_read bytes q n (carrying b a) f.grid f.time rest e (h.reads rest) m.derived (ap pos (sym m.begins)) ∙ rw h.last
@@ -102,7 +104,7 @@ lead_is zero b l u = omega arith
 lead_is (suc n) b l u = rw (le-ltb b (suc n) l) (omega arith)
 
 -- a record that is sound from the lead gives one
-good_by : (n : ℕ) (s : State) (f : Sent) → InReach n s → Electable n (lead_for n (pos s.border)) f.grid → time_grid n f.grid ≡ answered f.time → Good n s.border f
+good_by : (n : ℕ) (s : State) (f : Sent) → InReach n s → Electable n (lead_for n (pos s.border)) f.grid → time_grid n f.grid ≡ Ok f.time → Good n s.border f
 good_by n s f i el tm =
     let sr = el.sound in
     let same : sr.time ≡ f.time = cc (sr.derived, tm) in
@@ -122,10 +124,10 @@ good_by n s f i el tm =
     }
 
 -- so a turn that answers and hands in the run's things sends such a frame
-pub good_frame : (By : Choosing) → SoundChoice By → (r : Terms) (s : State) (t : Turn) (a : Turned) → InReach r.slots s → HandsIn By r s t → turn t ≡ answered a → Good r.slots s.border a.sent
+pub good_frame : (By : Choosing) → SoundChoice By → (r : Terms) (s : State) (t : Turn) (a : Turned) → InReach r.slots s → HandsIn By r s t → turn t ≡ Ok a → Good r.slots s.border a.sent
 good_frame By sound r s t a i h e =
     let c = calls t a e in
     let z = pos s.border in
     good_by r.slots s a.sent i
     (subst (λ (g : Grid). Electable r.slots (lead_for r.slots z) g) c.same (sound r z c.elected (subst (By r z) c.chose h.chosen)))
-    (subst (λ (k : ℕ). time_grid k a.sent.grid ≡ answered a.sent.time) h.time_slots c.times)
+    (subst (λ (k : ℕ). time_grid k a.sent.grid ≡ Ok a.sent.time) h.time_slots c.times)

@@ -1,4 +1,5 @@
 -- A list of readings: what it gives and leaves, over bytes that hold the frames' bits.
+use Rattle.std.specs.Prelude.{Ok, Err}
 use mathlib.Core.Path.{◌≡◌, refl, sym, ap, ◌∙◌, subst}
 use mathlib.Core.Bool.{Bool, false}
 use mathlib.Core.List.{List, [], ◌∷◌, ◌++◌, map, append_assoc}
@@ -8,7 +9,7 @@ use lib.ListN.{length, take, drop, length-append}
 use Rattle.bits.specs.Room.{Holds}
 use Rattle.bits.proofs.Held.{holds_past}
 use Rattle.sbr_grid.specs.declared.Refusal.{Refusal}
-use Rattle.sbr_grid.specs.Refusals.{Outcome, answered, refused}
+use Rattle.sbr_grid.specs.Refusals.{Outcome}
 use Rattle.sbr_writer.specs.Syntax.{grid_bits}
 use Rattle.sbr_reader.specs.Read.{Accepted, marks_end, read_grid, carrying}
 use Rattle.sbr_run.specs.Run.{Sent, Terms, State, Frame, frame_of, frames_from, stream}
@@ -19,7 +20,7 @@ use Rattle.sbr_run.proofs.Transmit.{GoodChain}
 
 -- the frame at the front is read
 pub front : (n b : ℕ) (a : Bool) (q : ℕ) (bytes : List ℕ) (f : Sent) (fs : List Sent) → Good n b f → Holds bytes q (stream (f ∷ fs))
-    → read_grid bytes q n (carrying b a) ≡ answered (got f a q)
+    → read_grid bytes q n (carrying b a) ≡ Ok (got f a q)
 front n b a q bytes f fs g h = read_ok n b a q bytes f (stream fs ++ h.0) g (h.1 ∙ append_assoc (grid_bits f.grid) (stream fs) h.0)
 
 -- ---- lists of readings
@@ -45,7 +46,7 @@ record By (r : Terms) (bytes : List ℕ) (c : Receiver) (rs : List Reading) (fs 
 
 -- what the first reading gives, where it gives the frame f
 abbrev front_read : Receiver → Sent → Outcome Accepted
-front_read c f = answered (got f c.attack c.position)
+front_read c f = Ok (got f c.attack c.position)
 
 -- the first reading gives the first frame
 gives : (r : Terms) (bytes : List ℕ) (rs : List Reading) → Hears r bytes rs → (c : Receiver) (f : Sent) (fs : List Sent) (z : State) → GoodChain r.slots c.border c.attack (f ∷ fs) z
@@ -62,12 +63,12 @@ gives r bytes rs ih c f fs z g h own l =
 more : (r : Terms) (bytes : List ℕ) (x : Reading) (rs : List Reading) → Hears r bytes rs → (c : Receiver) (fs : List Sent) (z : State) → GoodChain r.slots c.border c.attack fs z
     → Holds bytes c.position (stream fs) → (o : Outcome Accepted) → reading x ≡ o → OwnReading r.slots bytes c x o → Readings r.slots bytes (heard c o) rs → length (noted o (read rs)) ≤ length fs
     → By r bytes c rs fs z o
-more r bytes x rs ih c fs z g h (refused e) q own rest l =
+more r bytes x rs ih c fs z g h (Err e) q own rest l =
     let d = ih c fs z g h rest l in record { frames = d.frames; chain = d.chain; holds = d.holds; passed = d.passed }
-more r bytes x rs ih c [] z g h (answered a) q own rest l = absurd (omega arith)
-more r bytes x rs ih c (f ∷ fs) z g h (answered a) q own rest l =
+more r bytes x rs ih c [] z g h (Ok a) q own rest l = absurd (omega arith)
+more r bytes x rs ih c (f ∷ fs) z g h (Ok a) q own rest l =
     let is : got f c.attack c.position ≡ a = cc (sym (front r.slots c.border c.attack c.position bytes f fs g.0 h) ∙ ap reading (sym own) ∙ q) in
-    subst (λ (y : Accepted). Readings r.slots bytes (heard c (answered y)) rs → By r bytes c rs (f ∷ fs) z (answered y)) is
+    subst (λ (y : Accepted). Readings r.slots bytes (heard c (Ok y)) rs → By r bytes c rs (f ∷ fs) z (Ok y)) is
     (λ own'. gives r bytes rs ih c f fs z g h own' (omega arith)) rest
 
 pub hears : (r : Terms) (bytes : List ℕ) (rs : List Reading) → Hears r bytes rs
@@ -91,7 +92,7 @@ none_left (f ∷ fs) zero e = absurd (omega arith)
 none_left (f ∷ fs) (suc k) e = none_left fs k (omega arith)
 
 not_refused : (n : ℕ) (bytes : List ℕ) (c : Receiver) (fs : List Sent) (z : State) → 0 < length fs → GoodChain n c.border c.attack fs z → Holds bytes c.position (stream fs)
-    → (x : Refusal) → reading (reading_in_terms n bytes c) ≡ refused x → ⊥
+    → (x : Refusal) → reading (reading_in_terms n bytes c) ≡ Err x → ⊥
 not_refused n bytes c [] z l g h x q = absurd (omega arith)
 not_refused n bytes c (f ∷ fs) z l g h x q =
     let a = front n c.border c.attack c.position bytes f fs g.0 h in

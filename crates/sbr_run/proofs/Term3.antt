@@ -1,4 +1,5 @@
 -- Term 3.
+use Rattle.std.specs.Prelude.{Ok, Err}
 use mathlib.Core.Path.{◌≡◌, refl, sym, ap, ◌∙◌, subst}
 use mathlib.Core.Bool.{Bool, true, false, cond}
 use mathlib.Core.List.{List, [], ◌∷◌, ◌++◌, append_assoc, append-nil}
@@ -10,7 +11,7 @@ use lib.Ieee.{Float}
 use Rattle.bits.specs.Room.{room_for}
 use Rattle.sbr_grid.specs.declared.Refusal.{Refusal}
 use Rattle.sbr_grid.specs.declared.Refusal.TheVariants.{Room, Record}
-use Rattle.sbr_grid.specs.Refusals.{Outcome, answered, refused}
+use Rattle.sbr_grid.specs.Refusals.{Outcome}
 use Rattle.sbr_grid.specs.Grid.{Grid}
 use Rattle.sbr_grid.proofs.Outcomes.{unless_answered}
 use Rattle.sbr_grid.specs.Times.{Times, is_slot_count}
@@ -34,12 +35,12 @@ use Rattle.sbr_run.proofs.Transmit.{GoodChain, Left, run_left, run_chain, writte
 use Rattle.sbr_run.proofs.Receive.{read_back_by}
 
 -- a writable record is refused for room only
-room_by : (g : Grid) (w : Wrote) (e : Refusal) (a b : Bool) → a ≡ true → ◌≡◌ {A = Outcome Wrote} (cond a (cond b (answered w) (refused Room)) (refused Record)) (refused e) → e ≡ Room
+room_by : (g : Grid) (w : Wrote) (e : Refusal) (a b : Bool) → a ≡ true → ◌≡◌ {A = Outcome Wrote} (cond a (cond b (Ok w) (Err Room)) (Err Record)) (Err e) → e ≡ Room
 room_by g w e true true p q = let z : ◌≡◌ {A = ℕ} 0 1 = cc in absurd (omega arith)
 room_by g w e true false p q = cc
 room_by g w e false b p q = let z : ◌≡◌ {A = ℕ} 0 1 = cc in absurd (omega arith)
 
-room_only : (g : Grid) → writable g ≡ true → (bytes : List ℕ) (p : ℕ) (e : Refusal) → write_grid bytes p g ≡ refused e → e ≡ Room
+room_only : (g : Grid) → writable g ≡ true → (bytes : List ℕ) (p : ℕ) (e : Refusal) → write_grid bytes p g ≡ Err e → e ≡ Room
 unfolding write_grid
 room_only g f bytes p e q = room_by g _ e (writable g) (room_for (length bytes) p (length (grid_bits g))) f q
 
@@ -48,7 +49,7 @@ room_only g f bytes p e q = room_by g _ e (writable g) (room_for (length bytes) 
 -- two frames whose bits begin alike have one record, and alike bits behind
 heads : (n b n' b' : ℕ) (f g : Sent) (u v : List Bool) → Good n b f → Good n' b' g → grid_bits f.grid ++ u ≡ grid_bits g.grid ++ v → (f.grid ≡ g.grid) × (u ≡ v)
 heads n b n' b' f g u v x y e =
-    let p : ◌≡◌ {A = Outcome (Grid × List Bool)} (answered (f.grid, u)) (answered (g.grid, v)) = sym (x.reads u) ∙ ap sbr_grid e ∙ y.reads v in
+    let p : ◌≡◌ {A = Outcome (Grid × List Bool)} (Ok (f.grid, u)) (Ok (g.grid, v)) = sym (x.reads u) ∙ ap sbr_grid e ∙ y.reads v in
     let q : ◌≡◌ {A = Grid × List Bool} (f.grid, u) (g.grid, v) = cc in
     (ap (λ (z : Grid × List Bool). z.0) q, ap (λ (z : Grid × List Bool). z.1) q)
 
@@ -100,18 +101,18 @@ differ_sym a b ne c bs m rs = ne (sym c) (sym bs) (sym m) (sym rs)
 
 -- ---- energies
 
-count_timed : (n : ℕ) (high low : List ℕ) (x : SampleAt) (g : Grid) (room : ℕ) (es : List Float) (o : Outcome Times) → time_grid n g ≡ o → rows_of x high low g room o ≡ answered es
+count_timed : (n : ℕ) (high low : List ℕ) (x : SampleAt) (g : Grid) (room : ℕ) (es : List Float) (o : Outcome Times) → time_grid n g ≡ o → rows_of x high low g room o ≡ Ok es
     → length es ≡ sum_of (row_lengths (length high - 1) (length low - 1) g.freq_res)
 unfolding rows_length
-count_timed n high low x g room es (refused r) q e = let z : ◌≡◌ {A = ℕ} 0 1 = cc in absurd (omega arith)
-count_timed n high low x g room es (answered t) q e =
+count_timed n high low x g room es (Err r) q e = let z : ◌≡◌ {A = ℕ} 0 1 = cc in absurd (omega arith)
+count_timed n high low x g room es (Ok t) q e =
     let ends = time_ends n g t q in
     let all = rows x high low g.freq_res (spans t.t_e) in
     let same : es ≡ all = cc (unless_answered (leb (length all) room) _ _ e).1 in
     ap length same
     ∙ rows-length x high low g.freq_res (spans t.t_e) (omega (arith, spans-length t.t_e 0 (length t.t_e - 1), ends.count))
 
-energies_count : (n : ℕ) (high low : List ℕ) (x : List Float) (g : Grid) (room : ℕ) (es : List Float) → energies n high low x g room ≡ answered es
+energies_count : (n : ℕ) (high low : List ℕ) (x : List Float) (g : Grid) (room : ℕ) (es : List Float) → energies n high low x g room ≡ Ok es
     → length es ≡ sum_of (row_lengths (length high - 1) (length low - 1) g.freq_res)
 unfolding energies
 energies_count n high low x g room es e =

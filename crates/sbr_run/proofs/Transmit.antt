@@ -1,4 +1,5 @@
 -- A list of turns: what it leaves.
+use Rattle.std.specs.Prelude.{Ok, Err}
 use mathlib.Core.Path.{◌≡◌, refl, sym, ap, ◌∙◌, subst}
 use mathlib.Core.Bool.{Bool, false}
 use mathlib.Core.List.{List, [], ◌∷◌, map}
@@ -13,7 +14,7 @@ use Rattle.bits.proofs.Held.{holds_read}
 use Rattle.bits.proofs.Put.{put_append}
 use Rattle.bits.proofs.After.{length-put_bits, put_leaves}
 use Rattle.bits.proofs.Room.{room}
-use Rattle.sbr_grid.specs.Refusals.{Outcome, answered, refused}
+use Rattle.sbr_grid.specs.Refusals.{Outcome}
 use Rattle.sbr_writer.specs.Syntax.{grid_bits}
 use Rattle.sbr_writer.proofs.Puts.{puts, some_bits}
 use Rattle.sbr_reader.specs.Read.{marks_end}
@@ -92,8 +93,8 @@ left_more n s z f fs g a w =
 -- one turn, by what it comes to
 step : (By : Choosing) → SoundChoice By → (r : Terms) (s z : State) (t : Turn) (fs : List Sent) (o : Outcome Turned) → InReach r.slots s → turn t ≡ o → OwnTurn By r s t o → Left r.slots (moved s o) z fs
     → Left r.slots s z (counted o fs)
-step By sound r s z t fs (refused e) i q own w = w
-step By sound r s z t fs (answered a) i q own w =
+step By sound r s z t fs (Err e) i q own w = w
+step By sound r s z t fs (Ok a) i q own w =
     let p = puts t.bytes t.position a.sent.grid a.wrote (calls t a q).writes in
     let k = room (length t.bytes) t.position (length (grid_bits a.sent.grid)) p.room in
     let c = grid_bits a.sent.grid in
@@ -105,8 +106,8 @@ step By sound r s z t fs (answered a) i q own w =
 
 -- what is carried stays within reach
 reach : (By : Choosing) → SoundChoice By → (r : Terms) (s : State) (t : Turn) (o : Outcome Turned) → InReach r.slots s → turn t ≡ o → OwnTurn By r s t o → InReach r.slots (moved s o)
-reach By sound r s t (refused e) i q own = i
-reach By sound r s t (answered a) i q own = let m = (good_frame By sound r s t a i own q).frame_meets in record { from = m.from; by = m.by }
+reach By sound r s t (Err e) i q own = i
+reach By sound r s t (Ok a) i q own = let m = (good_frame By sound r s t a i own q).frame_meets in record { from = m.from; by = m.by }
 
 pub transmit : (By : Choosing) → SoundChoice By → (r : Terms) (s : State) (ts : List Turn) → InReach r.slots s → Turns By r s ts → Left r.slots s (after s ts) (sent ts)
 transmit By sound r s [] i h = left_none r.slots s
@@ -159,8 +160,8 @@ written r s ts clear w =
 -- where one choosing call comes to nothing that another may not come to, its runs are runs by the other
 module _ (By By' : Choosing) (within : (r : Terms) (previous : ℤ) (o : Outcome Elected) → By r previous o → By' r previous o) where
   own-within : (r : Terms) (s : State) (t : Turn) (o : Outcome Turned) → OwnTurn By r s t o → OwnTurn By' r s t o
-  own-within r s t (refused e) h = tt
-  own-within r s t (answered a) h = record { chosen = within r _ _ h.chosen; time_slots = h.time_slots; bytes = h.bytes; position = h.position }
+  own-within r s t (Err e) h = tt
+  own-within r s t (Ok a) h = record { chosen = within r _ _ h.chosen; time_slots = h.time_slots; bytes = h.bytes; position = h.position }
 
   turns-within : (r : Terms) (s : State) (ts : List Turn) → Turns By r s ts → Turns By' r s ts
   turns-within r s [] h = tt

@@ -1,8 +1,8 @@
 -- What the program hands in and hands out for a turn and for a reading, and that these are the claim's.
-use Rattle.std.specs.Prelude.{◌≡◌, Bool, false, List, ℕ, Float}
-use Rattle.sbr_grid.specs.Refusals.{Outcome, answered, answer_of, value_or}
-use Rattle.sbr_grid.specs.Grid.{record_of, empty}
-use Rattle.sbr_grid.specs.Times.{time_record, empty_time}
+use Rattle.std.specs.Prelude.{◌≡◌, Bool, List, ℕ, Float}
+use Rattle.sbr_grid.specs.Refusals.{Outcome, value_or, result_map}
+use Rattle.sbr_grid.specs.Grid.{record_of}
+use Rattle.sbr_grid.specs.Times.{time_record}
 use Rattle.sbr_reader.specs.Read.{Accepted, marks_end, carrying}
 use Rattle.sbr_encoder.specs.Election.{elect}
 use Rattle.sbr_run.specs.declared.Place.{Place}
@@ -24,31 +24,34 @@ turn_from n high low x variable bytes p = record {
   position = p.position;
 }
 
--- record, time grid and transient flag of the frame sent, and what is carried on; as before where the turn is refused
-abbrev pub sending_of : Place → Outcome Turned → Sending
-sending_of p o = record {
-  answer = answer_of o;
-  grid = value_or (λ a. record_of a.sent.grid) empty o;
-  time = value_or (λ a. time_record a.sent.time) empty_time o;
-  transient = value_or (λ a. a.transient) false o;
-  place = value_or (λ a. place_of (last_border a.sent.time) (marks_end a.sent.grid a.sent.time) a.wrote.position) p o;
+-- record, time grid and transient flag of a frame that is sent, and what is carried on
+abbrev pub sending : Turned → Sending
+sending a = record {
+  grid = record_of a.sent.grid;
+  time = time_record a.sent.time;
+  transient = a.transient;
+  place = place_of (last_border a.sent.time) (marks_end a.sent.grid a.sent.time) a.wrote.position;
 }
 
+-- the bytes after a turn; as before where it is refused
 abbrev pub bytes_left : List ℕ → Outcome Turned → List ℕ
 bytes_left l o = value_or (λ a. a.wrote.bytes) l o
 
 abbrev pub reading_from : ℕ → List ℕ → Place → Reading
 reading_from n bytes p = record { bytes = bytes; position = p.position; slots = n; carried = p.carried }
 
--- record and time grid of the frame read, whether it begins on an attack, and what is carried on
-abbrev pub receiving_of : Place → Outcome Accepted → Receiving
-receiving_of p o = record {
-  answer = answer_of o;
-  grid = value_or (λ f. record_of f.grid) empty o;
-  time = value_or (λ f. time_record f.time) empty_time o;
-  begins_on_attack = value_or (λ f. f.begins_on_attack) false o;
-  place = value_or (λ f. place_of f.border f.ends_on_attack f.position) p o;
+-- record and time grid of a frame that is read, whether it begins on an attack, and what is carried on
+abbrev pub receiving : Accepted → Receiving
+receiving f = record {
+  grid = record_of f.grid;
+  time = time_record f.time;
+  begins_on_attack = f.begins_on_attack;
+  place = place_of f.border f.ends_on_attack f.position;
 }
+
+-- the place that a host hands in next: that of what was handed out, or the same again where the call is refused
+abbrev pub place_next : {A : Type 0} → (A → Place) → Place → Outcome A → Place
+place_next f p o = value_or f p o
 
 -- ---- the calls are the turns and readings of term 3: the statement, proved in proofs/Calls.antt
 
@@ -56,16 +59,16 @@ pub record CallsAreTurns : Type 0 where
   -- `send_frame` with the run's slot count and tables, and the border, position and bytes that the last turn left, makes a turn of the run
   pub hands_in : (r : Terms) (s : State) (x : List Float) (variable : Bool)
       → HandsIn Elects r s (turn_from r.slots r.high r.low x variable s.bytes (place_of s.border s.attack s.position))
-  -- what it carries on is what the turn moves; what it hands out is the frame that counts as sent
+  -- what is carried on is what the turn moves; what it hands out is the frame that counts as sent
   pub carries : (s : State) (o : Outcome Turned)
-      → (sending_of (place_of s.border s.attack s.position) o).place ≡ place_of (moved s o).border (moved s o).attack (moved s o).position
+      → place_next (λ a. a.place) (place_of s.border s.attack s.position) (result_map sending o)
+      ≡ place_of (moved s o).border (moved s o).attack (moved s o).position
   pub leaves : (s : State) (o : Outcome Turned) → bytes_left s.bytes o ≡ (moved s o).bytes
-  pub sends : (p : Place) (a : Turned)
-      → ((sending_of p (answered a)).grid ≡ record_of a.sent.grid) × ((sending_of p (answered a)).time ≡ time_record a.sent.time)
+  pub sends : (a : Turned) → ((sending a).grid ≡ record_of a.sent.grid) × ((sending a).time ≡ time_record a.sent.time)
   -- `receive_frame` with the slot count, those bytes and what the last reading left makes the reading in the run's terms
   pub in_terms : (n : ℕ) (bytes : List ℕ) (c : Receiver) → reading_from n bytes (place_of c.border c.attack c.position) ≡ reading_in_terms n bytes c
   pub keeps : (c : Receiver) (o : Outcome Accepted)
-      → (receiving_of (place_of c.border c.attack c.position) o).place ≡ place_of (heard c o).border (heard c o).attack (heard c o).position
-  pub reads : (p : Place) (f : Accepted)
-      → ((receiving_of p (answered f)).grid ≡ record_of f.grid) × ((receiving_of p (answered f)).time ≡ time_record f.time)
-      × ((receiving_of p (answered f)).begins_on_attack ≡ f.begins_on_attack)
+      → place_next (λ r. r.place) (place_of c.border c.attack c.position) (result_map receiving o)
+      ≡ place_of (heard c o).border (heard c o).attack (heard c o).position
+  pub reads : (f : Accepted)
+      → ((receiving f).grid ≡ record_of f.grid) × ((receiving f).time ≡ time_record f.time) × ((receiving f).begins_on_attack ≡ f.begins_on_attack)

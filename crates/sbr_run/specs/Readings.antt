@@ -1,6 +1,6 @@
 -- A receiver's readings: docs/ORDER.md, T3. The call is that of the public contract: `read_grid`.
-use Rattle.std.specs.Prelude.{◌≡◌, Bool, false, List, [], ◌∷◌, map, ℕ}
-use Rattle.sbr_grid.specs.Refusals.{Outcome, answered, refused}
+use Rattle.std.specs.Prelude.{◌≡◌, Bool, false, List, [], ◌∷◌, map, ℕ, Ok, Err}
+use Rattle.sbr_grid.specs.Refusals.{Outcome}
 use Rattle.sbr_grid.specs.Grid.{num_env_of}
 use Rattle.sbr_grid.specs.Times.{is_number}
 use Rattle.sbr_reader.specs.declared.Carried.{Carried}
@@ -29,8 +29,8 @@ tuned_at b q = record { border = b; attack = false; position = q }
 
 -- a reading that answers leaves the frame's last border, whether an attack is marked at its very end, and the position after it; a refused one moves nothing
 abbrev pub heard : Receiver → Outcome Accepted → Receiver
-heard c (answered f) = record { border = f.border; attack = f.ends_on_attack; position = f.position }
-heard c (refused e) = c
+heard c (Ok f) = record { border = f.border; attack = f.ends_on_attack; position = f.position }
+heard c (Err e) = c
 
 abbrev pub listened : Receiver → List Reading → Receiver
 listened c [] = c
@@ -38,8 +38,8 @@ listened c (r ∷ rs) = listened (heard c (reading r)) rs
 
 -- what the readings that answer gave, in order
 abbrev pub noted : Outcome Accepted → List Accepted → List Accepted
-noted (answered f) fs = f ∷ fs
-noted (refused e) fs = fs
+noted (Ok f) fs = f ∷ fs
+noted (Err e) fs = fs
 
 abbrev pub read : List Reading → List Accepted
 read [] = []
@@ -55,8 +55,8 @@ reading_in_terms n bytes c = record { bytes = bytes; position = c.position; slot
 
 -- readings that answer are so, refused ones hand in anything
 abbrev pub OwnReading : ℕ → List ℕ → Receiver → Reading → Outcome Accepted → Type 0
-OwnReading n bytes c r (answered f) = r ≡ reading_in_terms n bytes c
-OwnReading n bytes c r (refused e) = Unit {0}
+OwnReading n bytes c r (Ok f) = r ≡ reading_in_terms n bytes c
+OwnReading n bytes c r (Err e) = Unit {0}
 
 abbrev pub Readings : ℕ → List ℕ → Receiver → List Reading → Type 0
 Readings n bytes c [] = Unit {0}

@@ -1,8 +1,8 @@
 -- A transmitter's run: docs/ORDER.md, T3. The calls are those of the public contracts: `elect`, `time_grid`, `write_grid`.
 -- The call that chooses a turn's record is a parameter of the run. That of term 3 is the election, `Elects`.
-use Rattle.std.specs.Prelude.{◌≡◌, Bool, false, List, [], ◌∷◌, ◌++◌, ℕ, ◌+◌, ◌-◌, ◌≤◌, ℤ, pos, length, get_or, Float}
+use Rattle.std.specs.Prelude.{◌≡◌, Bool, false, List, [], ◌∷◌, ◌++◌, ℕ, ◌+◌, ◌-◌, ◌≤◌, ℤ, pos, length, get_or, Float, Ok, Err}
 use Rattle.sbr_grid.specs.declared.FrameClass.{FrameClass}
-use Rattle.sbr_grid.specs.Refusals.{Outcome, answered, refused}
+use Rattle.sbr_grid.specs.Refusals.{Outcome}
 use Rattle.sbr_grid.specs.Grid.{Grid, num_env_of}
 use Rattle.sbr_grid.specs.Times.{Times, is_number}
 use Rattle.sbr_time_grid.specs.TimeGrid.{time_grid}
@@ -34,8 +34,8 @@ pub record Turned : Type 0 where
 
 -- the next call, where the one before answered
 abbrev pub next : {A B : Type 0} → Outcome A → (A → Outcome B) → Outcome B
-next (answered a) f = f a
-next (refused e) f = refused e
+next (Ok a) f = f a
+next (Err e) f = Err e
 
 -- three calls; the one that refuses is the last
 unfoldable pub turn : Turn → Outcome Turned
@@ -43,7 +43,7 @@ turn t =
     next t.chosen (λ e.
     next (time_grid t.time_slots e.grid) (λ tm.
     next (write_grid t.bytes t.position e.grid) (λ w.
-    answered (record { sent = record { grid = e.grid; time = tm }; transient = e.transient; wrote = w }))))
+    Ok (record { sent = record { grid = e.grid; time = tm }; transient = e.transient; wrote = w }))))
 
 -- ---- choosing calls
 
@@ -81,13 +81,13 @@ last_border t = get_or t.t_e (length t.t_e - 1) 0
 -- where all calls answer, the frame's last border is carried, with whether an attack is marked at its very end, and the writer's position and bytes are
 -- kept; else nothing moves
 abbrev pub moved : State → Outcome Turned → State
-moved s (answered a) = record {
+moved s (Ok a) = record {
   border = last_border a.sent.time;
   attack = marks_end a.sent.grid a.sent.time;
   position = a.wrote.position;
   bytes = a.wrote.bytes;
 }
-moved s (refused e) = s
+moved s (Err e) = s
 
 abbrev pub after : State → List Turn → State
 after s [] = s
@@ -95,8 +95,8 @@ after s (t ∷ ts) = after (moved s (turn t)) ts
 
 -- the frames sent, in order
 abbrev pub counted : Outcome Turned → List Sent → List Sent
-counted (answered a) fs = a.sent ∷ fs
-counted (refused e) fs = fs
+counted (Ok a) fs = a.sent ∷ fs
+counted (Err e) fs = fs
 
 abbrev pub sent : List Turn → List Sent
 sent [] = []
@@ -112,8 +112,8 @@ pub record HandsIn (By : Choosing) (r : Terms) (s : State) (t : Turn) : Type 0 w
 
 -- turns that answer hand these in, refused ones anything
 abbrev pub OwnTurn : Choosing → Terms → State → Turn → Outcome Turned → Type 0
-OwnTurn By r s t (answered a) = HandsIn By r s t
-OwnTurn By r s t (refused e) = Unit {0}
+OwnTurn By r s t (Ok a) = HandsIn By r s t
+OwnTurn By r s t (Err e) = Unit {0}
 
 abbrev pub Turns : Choosing → Terms → State → List Turn → Type 0
 Turns By r s [] = Unit {0}
@@ -169,7 +169,7 @@ stream (f ∷ fs) = grid_bits f.grid ++ stream fs
 
 -- each frame begins where the one before ended, the first at b, and ends 0 to 3 slots past n; the last one ends at e
 pub record Meets (n b : ℕ) (f : Sent) : Type 0 where
-  pub derived : time_grid n f.grid ≡ answered f.time
+  pub derived : time_grid n f.grid ≡ Ok f.time
   pub begins : first_border f.time + n ≡ b
   pub from : n ≤ last_border f.time
   pub by : last_border f.time ≤ n + 3

@@ -1,11 +1,10 @@
 -- Term 3: one claim about whole lists of turns and of readings, whatever the samples; and the same for any choosing call whose answers
 -- are sound from the lead. Proved in proofs/Term3.antt.
-use Rattle.std.specs.Prelude.{◌≡◌, Bool, false, List, ◌++◌, map, ℕ, ◌+◌, ◌-◌, ◌≤◌, ◌<◌, ℤ, length, take, get_or, replicate, Float}
+use Rattle.std.specs.Prelude.{◌≡◌, Bool, false, List, ◌++◌, map, ℕ, ◌+◌, ◌-◌, ◌≤◌, ◌<◌, ℤ, length, take, get_or, replicate, Float, Ok, Err}
 use Rattle.bits.specs.Room.{Holds}
 use Rattle.bits.specs.Put.{BitsPut}
 use Rattle.sbr_grid.specs.declared.Refusal.{Refusal}
 use Rattle.sbr_grid.specs.declared.Refusal.TheVariants.{Room}
-use Rattle.sbr_grid.specs.Refusals.{answered, refused}
 use Rattle.sbr_grid.specs.Grid.{Grid}
 use Rattle.sbr_grid.specs.Times.{Times}
 use Rattle.sbr_time_grid.specs.TimeGrid.{time_grid}
@@ -21,9 +20,9 @@ use Rattle.sbr_run.specs.Readings.{Reading, reading, tuned_at, listened, read, f
 
 -- with the run's slot count n, the time grid never refuses a chosen record, its mark is never the envelope count, and the writer refuses only for room
 pub record Sendable (n : ℕ) (g : Grid) : Type 0 where
-  pub timed : (t : Times) × (time_grid n g ≡ answered t)
+  pub timed : (t : Times) × (time_grid n g ≡ Ok t)
   pub not_at_end : NotAtEnd n g
-  pub room_only : (bytes : List ℕ) (p : ℕ) (e : Refusal) → write_grid bytes p g ≡ refused e → e ≡ Room
+  pub room_only : (bytes : List ℕ) (p : ℕ) (e : Refusal) → write_grid bytes p g ≡ Err e → e ≡ Room
 
 -- what the turns leave
 pub record Transmitted (r : Terms) (s : State) (ts : List Turn) : Type 0 where
@@ -48,7 +47,7 @@ pub record ReadBack (r : Terms) (fs : List Sent) (b : ℕ) (z : State) (bytes : 
   pub in_order : length (read rs) ≤ length fs → map (frame_heard r) (read rs) ≡ take (length (read rs)) (frames_sent r fs)
   -- while a frame is unread, the next reading in the run's terms is not refused
   pub answers : length (read rs) < length fs
-      → (e : Refusal) → reading (reading_in_terms r.slots bytes (listened (tuned_at b q) rs)) ≡ refused e → ⊥
+      → (e : Refusal) → reading (reading_in_terms r.slots bytes (listened (tuned_at b q) rs)) ≡ Err e → ⊥
   -- when all are read, border, flag and position are the transmitter's
   pub border : length (read rs) ≡ length fs → (listened (tuned_at b q) rs).border ≡ z.border
   pub attack : length (read rs) ≡ length fs → (listened (tuned_at b q) rs).attack ≡ z.attack
@@ -70,7 +69,7 @@ pub record Apart (ts ts' : List Turn) : Type 0 where
 
 -- that of the runs by one choosing call
 pub record Term3Of (By : Choosing) : Type 0 where
-  pub sendable : (r : Terms) (previous : ℤ) (e : Elected) → By r previous (answered e) → Sendable r.slots e.grid
+  pub sendable : (r : Terms) (previous : ℤ) (e : Elected) → By r previous (Ok e) → Sendable r.slots e.grid
   pub transmitted : (r : Terms) (s : State) (ts : List Turn) → Run By r s ts → Transmitted r s ts
   pub read_back : (r : Terms) (s : State) (ts : List Turn) → Run By r s ts
       → (bytes : List ℕ) (q : ℕ) → Holds bytes q (stream (sent ts))
@@ -78,7 +77,7 @@ pub record Term3Of (By : Choosing) : Type 0 where
       → ReadBack r (sent ts) s.border (after s ts) bytes q rs
   -- energies that answer for a record answer the sum of its row lengths: for those sent and those read, and any other
   pub energies_count : (n : ℕ) (high low : List ℕ) (x : List Float) (g : Grid) (room : ℕ) (es : List Float)
-      → energies n high low x g room ≡ answered es → length es ≡ sum_of (row_lengths (length high - 1) (length low - 1) g.freq_res)
+      → energies n high low x g room ≡ Ok es → length es ≡ sum_of (row_lengths (length high - 1) (length low - 1) g.freq_res)
   -- two runs of one slot count that differ in a frame that both have sent
   pub apart : (r r' : Terms) (s s' : State) (ts ts' : List Turn) → Run By r s ts → Run By r' s' ts' → r.slots ≡ r'.slots
       → (i : ℕ) (d : Frame) → i < length (sent ts) → i < length (sent ts')
@@ -91,7 +90,7 @@ Term3 = Term3Of Elects
 -- a choosing call whose answers are sound from the lead: each has a time grid from there to 0 to 3 slots past the frame, whose mark is not the envelope
 -- count, the writer refuses it for room only, a reader of its bits gives the same record, and the record handed out for it has it as its view
 abbrev pub SoundChoice : Choosing → Type 0
-SoundChoice By = (r : Terms) (previous : ℤ) (e : Elected) → By r previous (answered e) → Electable r.slots (lead_for r.slots previous) e.grid
+SoundChoice By = (r : Terms) (previous : ℤ) (e : Elected) → By r previous (Ok e) → Electable r.slots (lead_for r.slots previous) e.grid
 
 -- the claim holds of the runs by every such call
 abbrev pub EveryCall : Type 1

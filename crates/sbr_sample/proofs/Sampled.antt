@@ -1,4 +1,5 @@
 -- The sample run is as stated: each turn is computed once, and what is read is derived from term 3.
+use Rattle.std.specs.Prelude.{Ok, Err}
 use mathlib.Core.Path.{◌≡◌, refl, sym, ap, ◌∙◌, subst}
 use mathlib.Core.Bool.{Bool, true, false}
 use mathlib.Core.List.{List, [], ◌∷◌, map}
@@ -14,7 +15,7 @@ use Rattle.bits.specs.Room.{end_of, room_for}
 use Rattle.sbr_grid.specs.declared.FrameClass.{FrameClass}
 use Rattle.sbr_grid.specs.declared.FrameClass.TheVariants.{FixFix, FixVar, VarFix}
 use Rattle.sbr_grid.specs.declared.Refusal.TheVariants.{SlotCount, Room}
-use Rattle.sbr_grid.specs.Refusals.{Outcome, answered, refused}
+use Rattle.sbr_grid.specs.Refusals.{Outcome}
 use Rattle.sbr_grid.specs.Grid.{width_from, Grid, made}
 use Rattle.sbr_grid.specs.Times.{Times, is_slot_count}
 use Rattle.sbr_time_grid.specs.TimeGrid.{abs_bord_lead, abs_bord_trail, n_rel_lead, n_rel_trail, rel_bord_lead, slot_sum, list_from, t_e_of, rises, middle_border, l_a_of, counts_fit, borders_fit, noise_fits, t_q_of, time_grid}
@@ -44,7 +45,7 @@ hands s c = record { chosen = record { samples = loud_from s; variable = true; i
 
 -- a turn that answered
 abbrev turned : Grid → Times → Bool → State → Outcome Turned
-turned g t onset c = answered (record { sent = record { grid = g; time = t }; transient = onset; wrote = record { bytes = c.bytes; position = c.position } })
+turned g t onset c = Ok (record { sent = record { grid = g; time = t }; transient = onset; wrote = record { bytes = c.bytes; position = c.position } })
 
 abbrev times : List ℕ → List ℕ → ℤ → Times
 times es qs a = record { t_e = es; t_q = qs; l_a = a }
@@ -52,10 +53,10 @@ times es qs a = record { t_e = es; t_q = qs; l_a = a }
 -- what each turn comes to
 record Outcomes : Type 0 where
   one : turn (turn_at 16 24 start) ≡ turned (made FixFix 1 (true ∷ []) 0 0 [] [] 0 true) (times (0 ∷ 16 ∷ []) (0 ∷ 16 ∷ []) (negsuc 0)) false after_one
-  two : turn (turn_at 17 24 after_one) ≡ refused SlotCount
+  two : turn (turn_at 17 24 after_one) ≡ Err SlotCount
   three : turn (turn_at 16 15 after_one) ≡ turned (made FixVar 2 (false ∷ false ∷ false ∷ []) 0 2 [] (0 ∷ 0 ∷ []) 3 false) (times (0 ∷ 14 ∷ 16 ∷ 18 ∷ []) (0 ∷ 14 ∷ 18 ∷ []) (pos 1)) true after_two
   four : turn (turn_at 16 10 after_two) ≡ turned (made VarFix 2 (false ∷ false ∷ true ∷ []) 2 0 (3 ∷ 0 ∷ []) [] 3 false) (times (2 ∷ 10 ∷ 12 ∷ 16 ∷ []) (2 ∷ 12 ∷ 16 ∷ []) (pos 2)) true end
-  five : turn (turn_at 16 24 end) ≡ refused Room
+  five : turn (turn_at 16 24 end) ≡ Err Room
 
 outcomes : Outcomes
 unfolding columns total of_bits Ieee.add Ieee.mul Ieee.div Ieee.of_int Ieee.lt Ieee.le Ieee.is_nan peak_for is_attack onsets_from detect_onsets halves_alike spread_is_high bit_at with_bit get_bit make_bit make_bits put_bits bits_at bits_of num_from end_of room_for width_from abs_bord_lead abs_bord_trail n_rel_lead n_rel_trail rel_bord_lead slot_sum list_from t_e_of rises middle_border l_a_of is_slot_count counts_fit borders_fit noise_fits t_q_of time_grid twos body_bits grid_bits every class_fits fields_fit_of write_grid among drawn high_fits low_fits spans_from inside largest_from smallest_from is_spread some_spread elect_freq_res fixfix_grid segments_by late_attack_varvar fixvar_segs varfix_segs fixvar_grid varfix_grid variable_grid attack_grid plain_grid chosen_grid elect turn

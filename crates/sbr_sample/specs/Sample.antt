@@ -1,10 +1,9 @@
 -- A run of five turns, two of them refused, and its readings: the claim is about something, and its hypotheses are met. Proved in proofs/Sampled.antt.
-use Rattle.std.specs.Prelude.{◌≡◌, true, false, List, [], ◌∷◌, ◌++◌, map, ℕ, zero, suc, ◌+◌, ◌-◌, ◌*◌, pos, negsuc, length, take, replicate, Float}
+use Rattle.std.specs.Prelude.{◌≡◌, true, false, List, [], ◌∷◌, ◌++◌, map, ℕ, zero, suc, ◌+◌, ◌-◌, ◌*◌, pos, negsuc, length, take, replicate, Float, Err}
 use Rattle.std.specs.Float.{binary64}
 use Rattle.std.specs.Float.Ieee.{of_bits}
 use Rattle.sbr_grid.specs.declared.FrameClass.TheVariants.{FixFix, FixVar, VarFix}
 use Rattle.sbr_grid.specs.declared.Refusal.{Refusal}
-use Rattle.sbr_grid.specs.Refusals.{refused}
 use Rattle.sbr_floats.specs.Floats.{zero64}
 use Rattle.sbr_encoder.specs.Election.{elect}
 use Rattle.sbr_reader.specs.Read.{carrying}
@@ -129,5 +128,5 @@ pub record Sample : Type 0 where
   -- the next one is not refused; neither run's stream begins the other's
   pub reads : map (frame_heard terms) (read readings) ≡ frames
   pub hears : listened tuned readings ≡ record { border = end.border; attack = end.attack; position = end.position }
-  pub unread : (e : Refusal) → reading (reading_in_terms 16 end.bytes (listened tuned (take 2 readings))) ≡ refused e → ⊥
+  pub unread : (e : Refusal) → reading (reading_in_terms 16 end.bytes (listened tuned (take 2 readings))) ≡ Err e → ⊥
   pub apart : Apart turns other_turns

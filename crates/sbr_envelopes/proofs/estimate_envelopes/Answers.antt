@@ -1,37 +1,71 @@
-use Rattle.std.proofs.Common.{◌≡◌, ◌≤◌, ◌<◌, true, sym, ◌∙◌, length, arith}
-use Rattle.sbr_grid.specs.declared.Refusal.TheVariants.{SlotCount, Samples, Tables}
-use Rattle.sbr_grid.specs.Times.{is_slot_count}
-use Rattle.sbr_qmf.specs.Qmf.{samples_needed}
-use Rattle.sbr_bands.specs.Tables.{tables_fit}
-use Rattle.sbr_envelopes.proofs.Answers.{refuses, no_slots, no-tables, no-samples, passed}
+use Rattle.std.proofs.Common.{sym, length, arith}
+use Rattle.sbr_grid.specs.Grid.{view_of}
+use Rattle.sbr_grid.specs.Times.{time_record}
+use Rattle.sbr_time_grid.specs.TimeGrid.{time_grid}
+use Rattle.sbr_grid.proofs.Outcomes.{passed_on, map_refused, map_answered}
+use Rattle.sbr_envelopes.proofs.Answers.{frame-refused, time-refused, frame-made, time-made, made}
+use Rattle.sbr_grid.proofs.Laws.{lengths}
 use Rattle.sbr_envelopes.proofs.estimate_envelopes.Goals as goal
 
-pub returns-then-not-is_slot_count : goal.returns-then-not-is_slot_count
-returns-then-not-is_slot_count c =
-    let a = c.args in
-    refuses _ SlotCount _ (no_slots a.high.now a.low.now a.x.now a.grid a.num_time_slots _ (sym c.is_slot_count.ensures ∙ c.if-not-is_slot_count.true))
+pub returns-in_err-frame-clause-answer : goal.returns-in_err-frame-clause-answer
+returns-in_err-frame-clause-answer c =
+    rw (passed_on c.from_residual.result _ c.from_residual.ensures.1, frame-refused c.args.num_time_slots _ _ c.args.x.now (view_of c.args.grid) (length c.args.out.now) _ (sym c.in_err-frame.ensures.tests))
 
-pub returns-then-not-tables_fit : goal.returns-then-not-tables_fit
-returns-then-not-tables_fit c =
-    let a = c.args in
-    -- what each test tells once it is passed
-    let slots : is_slot_count a.num_time_slots ≡ true = sym c.is_slot_count.ensures ∙ c.if-not-is_slot_count.false in
-    refuses _ Tables _ (no-tables a.high.now a.low.now a.x.now a.grid a.num_time_slots _ slots (sym c.tables_fit.ensures ∙ c.if-not-tables_fit.true))
+pub returns-in_err-frame-clause-numbers : goal.returns-in_err-frame-clause-numbers
+returns-in_err-frame-clause-numbers c =
+    rw (frame-refused c.args.num_time_slots _ _ c.args.x.now (view_of c.args.grid) (length c.args.out.now) _ (sym c.in_err-frame.ensures.tests))
 
-pub returns-then-x-samples_needed : goal.returns-then-x-samples_needed
-returns-then-x-samples_needed c =
+pub returns-in_err-time-clause-answer : goal.returns-in_err-time-clause-answer
+returns-in_err-time-clause-answer c =
     let a = c.args in
-    -- what each test tells once it is passed
-    let slots : is_slot_count a.num_time_slots ≡ true = sym c.is_slot_count.ensures ∙ c.if-not-is_slot_count.false in
-    let fit : tables_fit a.high.now a.low.now ≡ true = sym c.tables_fit.ensures ∙ c.if-not-tables_fit.false in
-    let few : length a.x.now < samples_needed a.num_time_slots = omega (arith, rw slots at c.samples_needed.ensures, c.if-x-samples_needed.true) in
-    refuses _ Samples _ (no-samples a.high.now a.low.now a.x.now a.grid a.num_time_slots _ slots fit few)
+    let t = map_refused time_record (time_grid a.num_time_slots (view_of a.grid)) _ c.in_err-time.ensures in
+    rw (passed_on c.from_residual-in_err-time.result _ c.from_residual-in_err-time.ensures.1, time-refused a.num_time_slots _ _ a.x.now (view_of a.grid) (length a.out.now) _ _ (sym c.in_ok-frame.ensures.tests) t)
 
-pub returns : goal.returns
-returns c =
+pub returns-in_err-time-clause-numbers : goal.returns-in_err-time-clause-numbers
+returns-in_err-time-clause-numbers c =
     let a = c.args in
-    -- what each test tells once it is passed
-    let slots : is_slot_count a.num_time_slots ≡ true = sym c.is_slot_count.ensures ∙ c.if-not-is_slot_count.false in
-    let fit : tables_fit a.high.now a.low.now ≡ true = sym c.tables_fit.ensures ∙ c.if-not-tables_fit.false in
-    let enough : samples_needed a.num_time_slots ≤ length a.x.now = omega (arith, rw slots at c.samples_needed.ensures, c.if-x-samples_needed.false) in
-    rw (passed a.high.now a.low.now a.x.now a.grid a.num_time_slots (length a.out.now) slots fit enough) c.timed_rows.ensures
+    let t = map_refused time_record (time_grid a.num_time_slots (view_of a.grid)) _ c.in_err-time.ensures in
+    rw (time-refused a.num_time_slots _ _ a.x.now (view_of a.grid) (length a.out.now) _ _ (sym c.in_ok-frame.ensures.tests) t)
+
+pub resolutions-requires : goal.resolutions-requires
+resolutions-requires c =
+    let t = map_answered time_record (time_grid c.args.num_time_slots (view_of c.args.grid)) _ c.in_ok-time.ensures in
+    (made _ c.args.grid t.0 _ t.1.0 t.1.1).few
+
+pub borders-requires : goal.borders-requires
+borders-requires c =
+    let t = map_answered time_record (time_grid c.args.num_time_slots (view_of c.args.grid)) _ c.in_ok-time.ensures in
+    let m = made _ c.args.grid t.0 _ t.1.0 t.1.1 in
+    omega (arith, m.few, m.count)
+
+pub fit_rows-requires-clause-borders : goal.fit_rows-requires-clause-borders
+fit_rows-requires-clause-borders c =
+    let a = c.args in
+    let t = map_answered time_record (time_grid a.num_time_slots (view_of a.grid)) _ c.in_ok-time.ensures in
+    let m = made _ a.grid t.0 _ t.1.0 t.1.1 in
+    let f = frame-made a.num_time_slots _ _ a.x.now (view_of a.grid) 0 _ (sym c.in_ok-frame.ensures.tests) in
+    rw (f.1, c.borders.ensures, m.borders) m.within
+
+pub fit_rows-requires-clause-one_more : goal.fit_rows-requires-clause-one_more
+fit_rows-requires-clause-one_more c =
+    let t = map_answered time_record (time_grid c.args.num_time_slots (view_of c.args.grid)) _ c.in_ok-time.ensures in
+    let m = made _ c.args.grid t.0 _ t.1.0 t.1.1 in
+    rw (c.borders.ensures, c.resolutions.ensures, m.borders) (omega (arith, m.long, lengths c.args.grid))
+
+pub returns-clause-answer : goal.returns-clause-answer
+returns-clause-answer c =
+    let a = c.args in
+    let t = map_answered time_record (time_grid a.num_time_slots (view_of a.grid)) _ c.in_ok-time.ensures in
+    let m = made _ a.grid t.0 _ t.1.0 t.1.1 in
+    let f = c.in_ok-frame.ensures.frame in
+    rw (time-made a.num_time_slots _ _ a.x.now (view_of a.grid) (length a.out.now) _ t.0 (sym c.in_ok-frame.ensures.tests) t.1.0)
+    (rw (f.0, f.1, f.2, c.resolutions.ensures, c.borders.ensures, m.borders) at c.fit_rows.ensures.answer)
+
+pub returns-clause-numbers : goal.returns-clause-numbers
+returns-clause-numbers c =
+    let a = c.args in
+    let t = map_answered time_record (time_grid a.num_time_slots (view_of a.grid)) _ c.in_ok-time.ensures in
+    let m = made _ a.grid t.0 _ t.1.0 t.1.1 in
+    let f = c.in_ok-frame.ensures.frame in
+    rw (time-made a.num_time_slots _ _ a.x.now (view_of a.grid) (length a.out.now) _ t.0 (sym c.in_ok-frame.ensures.tests) t.1.0)
+    (rw (f.0, f.1, f.2, c.resolutions.ensures, c.borders.ensures, m.borders) at c.fit_rows.ensures.numbers)

@@ -3,4 +3,4 @@ use Rattle.sbr_envelopes.proofs.Rows.{Filled}
 use Rattle.sbr_envelopes.proofs.fill_rows.Given as goal
 
 abbrev pub invariant-loop-l : goal.invariant-loop-l
-invariant-loop-l l = Filled (columns l.x) l.high l.low l.freq_res l.t l.initial.out l.l l.at l.out
+invariant-loop-l l = Filled (columns l.frame.x.now) l.frame.tables.high.now l.frame.tables.low.now l.resolutions l.borders l.initial.out l.l l.at l.out

@@ -4,7 +4,7 @@ use Rattle.sbr_floats.specs.Floats.{zero64}
 use Rattle.sbr_resolution.specs.Resolution.{largest_from, smallest_from}
 use Rattle.sbr_resolution.proofs.is_spread.Given as goal
 
-abbrev pub invariant-loop-j : goal.invariant-loop-j
-invariant-loop-j l =
-    (l.largest ≡ largest_from zero64 (take l.j l.means)) × (l.smallest ≡ smallest_from (inf false) (take l.j l.means))
+abbrev pub invariant-loop-m : goal.invariant-loop-m
+invariant-loop-m l =
+    (l.largest ≡ largest_from zero64 (take l.m-index l.means)) × (l.smallest ≡ smallest_from (inf false) (take l.m-index l.means))
     × (is_nan l.largest ≡ false) × (is_nan l.smallest ≡ false)

@@ -1,82 +1,84 @@
 -- `sbr_run::send_frame` meets its contract.
-use mathlib.Core.Path.{◌≡◌, refl, sym, ap, ◌∙◌}
+use Rattle.std.specs.Prelude.{Ok, Err}
+use mathlib.Core.Path.{◌≡◌, refl, ap, ◌∙◌}
 use borrow.Author.Rules.{rules}
+use native.Mathlib.Omega.{arith}
 use mir.Syntax.{w32}
 use mir.ValLaws.{to_z-of_z}
-use Rattle.sbr_grid.specs.Refusals.{Outcome}
-use Rattle.sbr_grid.specs.Grid.{Grid}
-use Rattle.sbr_time_grid.specs.TimeGrid.{time_grid, derived_of}
-use Rattle.sbr_writer.specs.Write.{Wrote, write_grid, written_of, bytes_after}
-use Rattle.sbr_grid.proofs.Outcomes.{refused_is}
+use Rattle.sbr_grid.specs.Refusals.{result_map}
+use Rattle.sbr_grid.specs.Times.{time_record}
+use Rattle.sbr_grid.proofs.Outcomes.{passed_on, map_refused, map_answered}
+use Rattle.sbr_writer.specs.Write.{Wrote, bytes_after}
 use Rattle.sbr_encoder.specs.declared.Election.{Election}
-use Rattle.sbr_encoder.specs.Election.{election_of}
+use Rattle.sbr_encoder.specs.Election.{election}
 use Rattle.sbr_encoder.proofs.EveryElection.{every_election}
 use Rattle.sbr_run.specs.Place.{turn_from}
-use Rattle.sbr_run.proofs.TurnWays.{turned, choice-refuses, write-refuses, sends, Chosen, chosen, Timed, timed, wrote_to, wrote_not, sent_is}
+use Rattle.sbr_run.proofs.TurnWays.{choice-refuses, time-refuses, write-refuses, sends, Chosen, chosen, timed}
 use Rattle.sbr_run.proofs.send_frame.Goals as goal
+use Rattle.sbr_run.proofs.send_frame.Goals.{In_ok-elected}
 
-pub returns-in-Refused : goal.returns-in-Refused
-returns-in-Refused c =
+pub returns-in_err-elected : goal.returns-in_err-elected
+returns-in_err-elected c =
     let a = c.args in
-    -- the turn
-    let t = turn_from a.num_time_slots a.high.now a.low.now a.x.now a.variable_borders a.bytes.now a.place in
-    -- what was elected
-    let elected : c.elect_grid-elected.result ≡ election_of t.chosen = rw (to_z-of_z w32 a.place.carried.border (search rules)) at c.elect_grid-elected.ensures in
-    let m = c.in-Refused in
-    let r = choice-refuses t m.why (refused_is _ m.why (ap (λ (x : Election). x.answer) (sym elected) ∙ m.is)) in
-    rw r (c.refusal.ensures, refl)
+    let t = turn_from a.num_time_slots a.tables.high.now a.tables.low.now a.x.now a.variable_borders a.bytes.now a.place in
+    let e : Err c.in_err-elected.field-0.0 ≡ result_map election t.chosen = rw (to_z-of_z w32 a.place.carried.border (search rules)) at c.in_err-elected.ensures in
+    let r = choice-refuses t _ (map_refused election t.chosen _ e) in
+    rw r (record { answer = passed_on _ _ c.from_residual.ensures.1; bytes = refl })
 
-pub sent-requires : goal.sent-requires
-sent-requires c =
+-- what was elected
+made : (c : In_ok-elected)
+    → let a = c.args in
+    Chosen (turn_from a.num_time_slots a.tables.high.now a.tables.low.now a.x.now a.variable_borders a.bytes.now a.place) c.in_ok-elected.elected
+made c =
     let a = c.args in
-    -- the turn
-    let t = turn_from a.num_time_slots a.high.now a.low.now a.x.now a.variable_borders a.bytes.now a.place in
-    -- what was elected
-    let elected : c.elect_grid-elected.result ≡ election_of t.chosen = rw (to_z-of_z w32 a.place.carried.border (search rules)) at c.elect_grid-elected.ensures in
-    let got : Chosen t.time_slots t.chosen c.elect_grid-elected.result = chosen _ _ _ _ (every_election _ _ _ _ _ _) elected c.in_default.is in
-    -- the time grid of what was elected
-    let time : Timed t.time_slots got.elected.grid c.derive_time_grid-derived.result =
-    timed _ _ _ got.time.0 got.time.1 (c.derive_time_grid-derived.ensures ∙ ap (λ (x : Grid). derived_of (time_grid t.time_slots x)) got.view) in
-    (time.few, time.small)
+    let t = turn_from a.num_time_slots a.tables.high.now a.tables.low.now a.x.now a.variable_borders a.bytes.now a.place in
+    let e : Ok c.in_ok-elected.elected ≡ result_map election t.chosen = rw (to_z-of_z w32 a.place.carried.border (search rules)) at c.in_ok-elected.ensures in
+    chosen t _ (λ e h. (every_election _ _ _ _ _ _ e h).kept) e
 
-pub returns-in-To : goal.returns-in-To
-returns-in-To c =
+pub returns-in_err-time : goal.returns-in_err-time
+returns-in_err-time c =
+    let g = made (goal.at.returns-in_err-time c).In_ok-elected in
     let a = c.args in
-    -- the turn
-    let t = turn_from a.num_time_slots a.high.now a.low.now a.x.now a.variable_borders a.bytes.now a.place in
-    -- what was elected
-    let elected : c.elect_grid-elected.result ≡ election_of t.chosen = rw (to_z-of_z w32 a.place.carried.border (search rules)) at c.elect_grid-elected.ensures in
-    let got : Chosen t.time_slots t.chosen c.elect_grid-elected.result = chosen _ _ _ _ (every_election _ _ _ _ _ _) elected c.in_default.is in
-    -- the time grid of what was elected
-    let time : Timed t.time_slots got.elected.grid c.derive_time_grid-derived.result =
-    timed _ _ _ got.time.0 got.time.1 (c.derive_time_grid-derived.ensures ∙ ap (λ (x : Grid). derived_of (time_grid t.time_slots x)) got.view) in
-    -- what was written
-    let writing : Outcome Wrote = write_grid t.bytes t.position got.elected.grid in
-    let written : (c.write_grid.result ≡ written_of writing) × (c.write_grid.new.buf ≡ bytes_after t.bytes writing) = rw got.view at c.write_grid.ensures in
-    let o = wrote_to writing c.in-To.position (sym written.0 ∙ c.in-To.is) in
-    let r = sends t got.elected got.is time.time time.is o.0 o.1 in
-    rw r (
-      c.sent.ensures
-          ∙ sent_is a.place (turned got.elected time.time o.0) _ _ _ _ _ (ap (λ (x : Election). x.grid) got.whole) time.whole (ap (λ (x : Election). x.transient) got.whole)
-          time.left o.2,
-      written.1 ∙ ap (bytes_after _) o.1,
-    )
+    let t = turn_from a.num_time_slots a.tables.high.now a.tables.low.now a.x.now a.variable_borders a.bytes.now a.place in
+    let r = time-refuses t g.elected g.is _ (map_refused time_record _ _ (rw g.view at c.in_err-time.ensures)) in
+    rw r (record { answer = passed_on _ _ c.from_residual-in_err-time.ensures.1; bytes = refl })
 
-pub returns-in-Refused-write_grid : goal.returns-in-Refused-write_grid
-returns-in-Refused-write_grid c =
+pub returns-in_err-position : goal.returns-in_err-position
+returns-in_err-position c =
+    let g = made (goal.at.returns-in_err-position c).In_ok-elected in
+    let m = map_answered time_record _ _ (rw g.view at c.in_ok-time.ensures) in
+    let o = map_refused (λ (w : Wrote). w.position) _ _ (rw g.view at c.in_err-position.ensures.answer) in
     let a = c.args in
-    -- the turn
-    let t = turn_from a.num_time_slots a.high.now a.low.now a.x.now a.variable_borders a.bytes.now a.place in
-    -- what was elected
-    let elected : c.elect_grid-elected.result ≡ election_of t.chosen = rw (to_z-of_z w32 a.place.carried.border (search rules)) at c.elect_grid-elected.ensures in
-    let got : Chosen t.time_slots t.chosen c.elect_grid-elected.result = chosen _ _ _ _ (every_election _ _ _ _ _ _) elected c.in_default.is in
-    -- the time grid of what was elected
-    let time : Timed t.time_slots got.elected.grid c.derive_time_grid-derived.result =
-    timed _ _ _ got.time.0 got.time.1 (c.derive_time_grid-derived.ensures ∙ ap (λ (x : Grid). derived_of (time_grid t.time_slots x)) got.view) in
-    -- what was written
-    let writing : Outcome Wrote = write_grid t.bytes t.position got.elected.grid in
-    let written : (c.write_grid.result ≡ written_of writing) × (c.write_grid.new.buf ≡ bytes_after t.bytes writing) = rw got.view at c.write_grid.ensures in
-    let m = c.in-Refused-write_grid in
-    let o = wrote_not writing m.why (sym written.0 ∙ m.is) in
-    let r = write-refuses t got.elected got.is time.time time.is m.why o in
-    rw r (c.refusal-in-Refused-write_grid.ensures, written.1 ∙ ap (bytes_after _) o)
+    let t = turn_from a.num_time_slots a.tables.high.now a.tables.low.now a.x.now a.variable_borders a.bytes.now a.place in
+    let r = write-refuses t g.elected g.is m.0 m.1.0 _ o in
+    let b = rw g.view at c.write_grid.ensures.bytes in
+    rw r (record { answer = passed_on _ _ c.from_residual-in_err-position.ensures.1; bytes = b ∙ ap (bytes_after c.args.bytes.now) o })
+
+pub left_by-requires : goal.left_by-requires
+left_by-requires c =
+    let g = made (goal.at.left_by-requires c).In_ok-elected in
+    let m = map_answered time_record _ _ (rw g.view at c.in_ok-time.ensures) in
+    let t = timed c.args.num_time_slots g.elected.grid m.0 _ m.1.0 m.1.1 in
+    (t.few, omega (arith, t.small))
+
+pub returns : goal.returns
+returns c =
+    let g = made (goal.at.returns c).In_ok-elected in
+    let m = map_answered time_record _ _ (rw g.view at c.in_ok-time.ensures) in
+    let t = timed c.args.num_time_slots g.elected.grid m.0 _ m.1.0 m.1.1 in
+    let o = map_answered (λ (w : Wrote). w.position) _ _ (rw g.view at c.in_ok-position.ensures.answer) in
+    let a = c.args in
+    let turned_at = turn_from a.num_time_slots a.tables.high.now a.tables.low.now a.x.now a.variable_borders a.bytes.now a.place in
+    let r = sends turned_at g.elected g.is m.0 m.1.0 o.0 o.1.0 in
+    let b = rw g.view at c.write_grid.ensures.bytes in
+    let gr = ap (λ (x : Election). x.grid) g.whole in
+    let tr = ap (λ (x : Election). x.transient) g.whole in
+    rw r (record {
+      answer = λ i. Ok (record {
+        grid = gr i;
+        time = m.1.1 i;
+        transient = tr i;
+        place = record { carried = (c.left_by.ensures ∙ t.left) i; position = o.1.1 i };
+      });
+      bytes = b ∙ ap (bytes_after c.args.bytes.now) o.1.0;
+    })
