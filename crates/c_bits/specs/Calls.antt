@@ -1,17 +1,14 @@
 -- What the calls of C for writing and time grids come to: what they refuse before their own refusals, and what they are given where they are answered.
 use Rattle.std.specs.Prelude.{Bool, List, [], ℕ}
-use Rattle.sbr_grid.specs.declared.Refusal.TheVariants.{SlotCount, Record}
+use Rattle.sbr_grid.specs.declared.Refusal.TheVariants.{SlotCount}
 use Rattle.sbr_grid.specs.Refusals.{Outcome, unless}
 use Rattle.sbr_grid.specs.Times.{Times, is_slot_count}
 use Rattle.sbr_time_grid.specs.TimeGrid.{time_grid}
 use Rattle.sbr_writer.specs.Write.{Wrote, write_grid}
 use Rattle.c_values.specs.declared.form.Handed.{Handed}
-use Rattle.c_values.specs.Handed.{grid_from, formed, formable}
+use Rattle.c_values.specs.Handed.{grid_from, formed, formable, forming}
 
--- a call for which ok says that all can be formed: 5, then its own refusals; where it has a slot count, 1 before
-abbrev pub forming : {A : Type 0} → Bool → Outcome A → Outcome A
-forming ok o = unless ok Record o
-
+-- a call for which ok says that all can be formed, behind the slot count: 1, then 5, then its own refusals
 abbrev pub slotted : {A : Type 0} → ℕ → Bool → Outcome A → Outcome A
 slotted n ok o = unless (is_slot_count n) SlotCount (forming ok o)
 

@@ -2,12 +2,11 @@
 #![tactic(auto)]
 
 ghost use Rattle.c_values.specs.Handed.{handed};
-ghost use Rattle.c_values.specs.Given.{Gives, time_out};
+ghost use Rattle.c_values.specs.Given.{Leaves, time_out};
 ghost use Rattle.c_bits.specs.Calls.{write_call, time_call, write_out};
 
 use c_values::form::Handed;
 use sbr_grid::{Refusal, TimeGrid};
-use sbr_writer::Written;
 
 // Refused by 5 for what can't be formed, then as `sbr_writer::write_grid`.
 pub fn write_grid(
@@ -23,8 +22,8 @@ pub fn write_grid(
     rel_bord_1: &[u8],
     num_rel_1: u64,
     pointer: u8,
-) -> u32
-    ensures { Gives
+) -> Result<(), Refusal>
+    ensures { Leaves
         (write_call (handed frame_class num_env 0 var_bord_0 var_bord_1 num_rel_0 num_rel_1 pointer)
         freq_res.now rel_bord_0.now rel_bord_1.now bytes.old position.old)
         write_out (bytes.old, position.old)
@@ -40,18 +39,10 @@ pub fn write_grid(
         num_rel_1,
         pointer,
     };
-    let formed = c_values::form::form_record(handed, freq_res, rel_bord_0, rel_bord_1);
-    if !formed.is_formed {
-        return Refusal::Record.number();
-    }
-    let at = *position as usize;
-    match sbr_writer::write_grid(bytes, at, formed.grid) {
-        Written::To(next) => {
-            *position = next as u64;
-            0
-        }
-        Written::Refused(why) => why.number(),
-    }
+    let grid = c_values::form::form_record(handed, freq_res, rel_bord_0, rel_bord_1)?;
+    let next = sbr_writer::write_grid(bytes, *position as usize, grid)?;
+    *position = next as u64;
+    Ok(())
 }
 
 // Refused by 1, by 5 for what can't be formed, then as `sbr_time_grid::derive_time_grid`.
@@ -70,15 +61,15 @@ pub fn derive_time_grid(
     t_e: &mut [u32; TimeGrid::MAX_BORDERS],
     t_q: &mut [u32; TimeGrid::MAX_NOISE_BORDERS],
     l_a: &mut i32,
-) -> u32
-    ensures { Gives
+) -> Result<(), Refusal>
+    ensures { Leaves
         (time_call num_time_slots (handed frame_class num_env num_noise var_bord_0 var_bord_1 num_rel_0 num_rel_1 pointer)
         rel_bord_0.now rel_bord_1.now)
         time_out (t_e.old, t_q.old, l_a.old)
         result (t_e.new, t_q.new, l_a.new) }
 {
     if !sbr_grid::is_slot_count(num_time_slots as usize) {
-        return Refusal::SlotCount.number();
+        return Err(Refusal::SlotCount);
     }
     let handed = Handed {
         frame_class,
@@ -90,16 +81,8 @@ pub fn derive_time_grid(
         num_rel_1,
         pointer,
     };
-    let formed = c_values::form::form_borders(handed, rel_bord_0, rel_bord_1);
-    if !formed.is_formed {
-        return Refusal::Record.number();
-    }
-    let derived = sbr_time_grid::derive_time_grid(formed.grid, num_time_slots as usize);
-    let answer = derived.answer;
-    let code = c_values::give::code_of(answer);
-    if code != 0 {
-        return code;
-    }
-    c_values::give::give_times(derived.time, t_e, t_q, l_a);
-    0
+    let grid = c_values::form::form_borders(handed, rel_bord_0, rel_bord_1)?;
+    let time = sbr_time_grid::derive_time_grid(grid, num_time_slots as usize)?;
+    c_values::give::give_times(time, t_e, t_q, l_a);
+    Ok(())
 }

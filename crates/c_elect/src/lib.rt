@@ -1,10 +1,11 @@
 // What the call of C for an election does. sbr_c exports it.
 #![tactic(auto)]
 
-ghost use Rattle.c_values.specs.Given.{Gives};
+ghost use Rattle.c_values.specs.Given.{Leaves};
 ghost use Rattle.c_elect.specs.Elections.{elect_call, election_out};
 
 use c_values::give::NUMBERS;
+use sbr_bands::BandTables;
 use sbr_grid::{Refusal, SbrGrid};
 
 // Refused by 1, by 5 for a switch above 1, then as `sbr_encoder::elect_grid`.
@@ -20,8 +21,8 @@ pub fn elect_grid(
     freq_res: &mut [u8; SbrGrid::MAX_NUM_ENV],
     rel_bord_0: &mut [u8; SbrGrid::MAX_REL_BORD],
     rel_bord_1: &mut [u8; SbrGrid::MAX_REL_BORD],
-) -> u32
-    ensures { Gives
+) -> Result<(), Refusal>
+    ensures { Leaves
         (elect_call num_time_slots high.now low.now samples.now previous_border variable_borders)
         election_out (
           transient.old,
@@ -33,26 +34,19 @@ pub fn elect_grid(
         ) }
 {
     if !sbr_grid::is_slot_count(num_time_slots as usize) {
-        return Refusal::SlotCount.number();
+        return Err(Refusal::SlotCount);
     }
     if 1 < variable_borders {
-        return Refusal::Record.number();
+        return Err(Refusal::Record);
     }
     let elected = sbr_encoder::elect_grid(
         samples,
-        high,
-        low,
+        BandTables { high, low },
         previous_border,
         variable_borders == 1,
         num_time_slots as usize,
-    );
-    let answer = elected.answer;
-    let code = c_values::give::code_of(answer);
-    if code != 0 {
-        return code;
-    }
-    let onset = elected.transient as u32;
-    *transient = onset;
+    )?;
+    *transient = elected.transient as u32;
     c_values::give::give_record(elected.grid, numbers, freq_res, rel_bord_0, rel_bord_1);
-    0
+    Ok(())
 }

@@ -1,6 +1,6 @@
 -- What the call of C for energies comes to, and what it is given where it is answered.
-use Rattle.std.specs.Prelude.{List, ℕ, length, Float}
-use Rattle.sbr_grid.specs.Refusals.{Outcome, answered}
+use Rattle.std.specs.Prelude.{List, ℕ, length, Float, Ok}
+use Rattle.sbr_grid.specs.Refusals.{Outcome}
 use Rattle.sbr_envelopes.specs.Envelopes.{energies, numbers_after}
 use Rattle.c_values.specs.declared.form.Handed.{Handed}
 use Rattle.c_values.specs.Handed.{grid_from, formable}
@@ -13,4 +13,4 @@ energy_call n high low x h flags rel0 rel1 room =
 
 -- energies: the numbers after, those past the rows as they were, and how many the rows hold
 abbrev pub energy_out : List Float → List Float → List Float × ℕ
-energy_out out es = (numbers_after out (answered es), length es)
+energy_out out es = (numbers_after out (Ok es), length es)

@@ -3,11 +3,11 @@
 
 ghost use Rattle.std.specs.Prelude.{length};
 ghost use Rattle.c_values.specs.Handed.{handed};
-ghost use Rattle.c_values.specs.Given.{Gives};
+ghost use Rattle.c_values.specs.Given.{Leaves};
 ghost use Rattle.c_energies.specs.Energies.{energy_call, energy_out};
 
 use c_values::form::Handed;
-use sbr_envelopes::Estimated;
+use sbr_bands::BandTables;
 use sbr_grid::Refusal;
 
 // Refused by 1, by 5 for what can't be formed, then as `sbr_envelopes::estimate_envelopes`.
@@ -29,8 +29,8 @@ pub fn estimate_envelopes(
     pointer: u8,
     out: &mut [f64],
     count: &mut u64,
-) -> u32
-    ensures { Gives
+) -> Result<(), Refusal>
+    ensures { Leaves
         (energy_call num_time_slots high.now low.now samples.now
         (handed frame_class num_env num_noise var_bord_0 var_bord_1 num_rel_0 num_rel_1 pointer)
         freq_res.now rel_bord_0.now rel_bord_1.now (length out.old))
@@ -38,7 +38,7 @@ pub fn estimate_envelopes(
         result (out.new, count.new) }
 {
     if !sbr_grid::is_slot_count(num_time_slots as usize) {
-        return Refusal::SlotCount.number();
+        return Err(Refusal::SlotCount);
     }
     let handed = Handed {
         frame_class,
@@ -50,22 +50,14 @@ pub fn estimate_envelopes(
         num_rel_1,
         pointer,
     };
-    let formed = c_values::form::form_record(handed, freq_res, rel_bord_0, rel_bord_1);
-    if !formed.is_formed {
-        return Refusal::Record.number();
-    }
-    match sbr_envelopes::estimate_envelopes(
+    let grid = c_values::form::form_record(handed, freq_res, rel_bord_0, rel_bord_1)?;
+    let n = sbr_envelopes::estimate_envelopes(
         samples,
-        high,
-        low,
-        formed.grid,
+        BandTables { high, low },
+        grid,
         num_time_slots as usize,
         out,
-    ) {
-        Estimated::Count(n) => {
-            *count = n as u64;
-            0
-        }
-        Estimated::Refused(why) => why.number(),
-    }
+    )?;
+    *count = n as u64;
+    Ok(())
 }

@@ -1,7 +1,7 @@
 // What the call of C for named borders does. sbr_c exports it.
 #![tactic(auto)]
 
-ghost use Rattle.c_values.specs.Given.{Gives, record_out};
+ghost use Rattle.c_values.specs.Given.{Leaves, record_out};
 ghost use Rattle.c_named.specs.Named.{named_call};
 
 use c_values::give::NUMBERS;
@@ -18,30 +18,25 @@ pub fn grid_for_borders(
     freq_res: &mut [u8; SbrGrid::MAX_NUM_ENV],
     rel_bord_0: &mut [u8; SbrGrid::MAX_REL_BORD],
     rel_bord_1: &mut [u8; SbrGrid::MAX_REL_BORD],
-) -> u32
-    ensures { Gives
+) -> Result<(), Refusal>
+    ensures { Leaves
         (named_call num_time_slots borders.now resolutions.now l_a)
         record_out (numbers.old, freq_res.old, rel_bord_0.old, rel_bord_1.old)
         result (numbers.new, freq_res.new, rel_bord_0.new, rel_bord_1.new) }
 {
     if !sbr_grid::is_slot_count(num_time_slots as usize) {
-        return Refusal::SlotCount.number();
+        return Err(Refusal::SlotCount);
     }
     let count = resolutions.len();
     if !c_values::form::is_flagged(resolutions, count) {
-        return Refusal::Record.number();
+        return Err(Refusal::Record);
     }
     // No grid has more envelopes.
     if SbrGrid::MAX_NUM_ENV < count {
-        return Refusal::NoGrid.number();
+        return Err(Refusal::NoGrid);
     }
     let flags = c_values::form::flags(resolutions, count);
-    let named = sbr_named::grid_for_borders(num_time_slots as usize, borders, &flags[..count], l_a);
-    let answer = named.answer;
-    let code = c_values::give::code_of(answer);
-    if code != 0 {
-        return code;
-    }
-    c_values::give::give_record(named.grid, numbers, freq_res, rel_bord_0, rel_bord_1);
-    0
+    let grid = sbr_named::grid_for_borders(num_time_slots as usize, borders, &flags[..count], l_a)?;
+    c_values::give::give_record(grid, numbers, freq_res, rel_bord_0, rel_bord_1);
+    Ok(())
 }

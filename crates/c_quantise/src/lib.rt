@@ -2,21 +2,20 @@
 #![tactic(auto)]
 
 ghost use Rattle.std.specs.Prelude.{length};
-ghost use Rattle.c_values.specs.Given.{Gives};
+ghost use Rattle.c_values.specs.Given.{Leaves};
 ghost use Rattle.c_quantise.specs.Quantise.{quantise_call, quantise_out};
 
 use sbr_grid::Refusal;
 
 // Refused by 5 for a switch above 1, then as `sbr_quantise::quantise_envelopes`.
-pub fn quantise_envelopes(energy: &[f64], amp_res: u32, out: &mut [u8]) -> u32
-    ensures { Gives
+pub fn quantise_envelopes(energy: &[f64], amp_res: u32, out: &mut [u8]) -> Result<(), Refusal>
+    ensures { Leaves
         (quantise_call energy.now amp_res (length out.old))
         (quantise_out out.old) out.old
         result out.new }
 {
     if 1 < amp_res {
-        return Refusal::Record.number();
+        return Err(Refusal::Record);
     }
-    let answer = sbr_quantise::quantise_envelopes(energy, amp_res == 1, out);
-    c_values::give::code_of(answer)
+    sbr_quantise::quantise_envelopes(energy, amp_res == 1, out)
 }

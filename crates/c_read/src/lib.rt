@@ -2,11 +2,11 @@
 #![tactic(auto)]
 
 ghost use Rattle.sbr_reader.specs.Read.{read_grid};
-ghost use Rattle.c_values.specs.Given.{Gives};
+ghost use Rattle.c_values.specs.Given.{Leaves};
 ghost use Rattle.c_read.specs.Frames.{carried_in, frame_out};
 
 use c_values::give::NUMBERS;
-use sbr_grid::{SbrGrid, TimeGrid};
+use sbr_grid::{Refusal, SbrGrid, TimeGrid};
 use sbr_reader::Carried;
 
 // Refused as `sbr_reader::read_grid`. Border in: where the frame before ended; out: where this one ends. Attack in: any number but 0 where the frame
@@ -25,8 +25,8 @@ pub fn read_grid(
     t_e: &mut [u32; TimeGrid::MAX_BORDERS],
     t_q: &mut [u32; TimeGrid::MAX_NOISE_BORDERS],
     l_a: &mut i32,
-) -> u32
-    ensures { Gives
+) -> Result<(), Refusal>
+    ensures { Leaves
         (read_grid bytes.now position.old num_time_slots (carried_in border.old attack.old))
         frame_out (
           position.old,
@@ -45,31 +45,16 @@ pub fn read_grid(
           (t_e.new, t_q.new, l_a.new),
         ) }
 {
-    let at = *position as usize;
-    let before = *border;
-    let flag = *attack;
-    let read = sbr_reader::read_grid(
-        bytes,
-        at,
-        num_time_slots as usize,
-        Carried {
-            border: before,
-            attack: flag != 0,
-        },
-    );
-    let answer = read.answer;
-    let code = c_values::give::code_of(answer);
-    if code != 0 {
-        return code;
-    }
-    let last = read.carried.border;
-    let ends = read.carried.attack as u32;
-    let begins = read.begins_on_attack as u32;
+    let carried = Carried {
+        border: *border,
+        attack: *attack != 0,
+    };
+    let read = sbr_reader::read_grid(bytes, *position as usize, num_time_slots as usize, carried)?;
     *position = read.position as u64;
-    *border = last;
-    *attack = ends;
-    *begins_on_attack = begins;
+    *border = read.carried.border;
+    *attack = read.carried.attack as u32;
+    *begins_on_attack = read.begins_on_attack as u32;
     c_values::give::give_record(read.grid, numbers, freq_res, rel_bord_0, rel_bord_1);
     c_values::give::give_times(read.time, t_e, t_q, l_a);
-    0
+    Ok(())
 }

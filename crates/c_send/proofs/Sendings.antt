@@ -1,4 +1,5 @@
 -- What C is given of a turn that sends a frame.
+use Rattle.std.specs.Prelude.{Ok}
 use mathlib.Core.Path.{◌≡◌, sym, ap, ◌∙◌}
 use mathlib.Core.Bool.{Bool}
 use mathlib.Core.List.{List}
@@ -6,54 +7,37 @@ use Prim.Native.Nat.{ℕ}
 use lib.IntN.{ℤ, pos}
 use lib.Ieee.{Float}
 use Rattle.bits.specs.Bits.{bit_n}
-use Rattle.sbr_grid.specs.Refusals.{answered, answer_of}
+use Rattle.sbr_grid.specs.Refusals.{result_map}
+use Rattle.sbr_grid.specs.Grid.{record_of}
+use Rattle.sbr_grid.proofs.Outcomes.{map_answered}
 use Rattle.sbr_encoder.specs.Election.{elect}
-use Rattle.sbr_run.specs.declared.Place.{Place}
 use Rattle.sbr_run.specs.declared.Sending.{Sending}
 use Rattle.sbr_run.specs.Run.{Turn, Turned, turn, last_border}
-use Rattle.sbr_run.specs.Place.{sending_of, bytes_left}
+use Rattle.sbr_run.specs.Place.{sending, bytes_left}
 use Rattle.sbr_run.proofs.OneFrame.{calls}
-use Rattle.c_values.specs.Given.{code_of, RecordGiven, TimesGiven, time_out, Few}
-use Rattle.c_values.proofs.Answers.{has-answered, has-refused, Out, handed_out, TimesAt, RecordAt, shown, shown_record}
+use Rattle.c_values.specs.Given.{RecordGiven, TimesGiven, time_out, Few, Leaves}
+use Rattle.c_values.proofs.Answers.{leaves-answered, shown, shown_record}
 use Rattle.c_send.specs.Turns.{send_out}
 use Rattle.c_elect.proofs.Given.{elected_few}
 
--- what a program gives of a turn and the bytes that it leaves
-abbrev given : List ℕ × Sending → List ℕ × ℕ × ℤ × ℕ × RecordGiven × TimesGiven
-given d =
-    let s = d.1 in
-    (d.0, s.place.position, s.place.carried.border, bit_n s.transient, shown s.grid, (s.time.t_e, s.time.t_q, s.time.l_a))
+-- the counts of its record are small, where it is elected
+pub sent_few : (t : Turn) (a : Turned) (n : ℕ) (high low : List ℕ) (x : List Float) (y : ℤ) (v : Bool) → turn t ≡ Ok a → t.chosen ≡ elect n high low x y v
+    → Few (record_of a.sent.grid)
+sent_few t a n high low x y v e h =
+    let c = calls t a e in
+    rw (sym c.same) (elected_few n high low x y v c.elected (sym h ∙ c.chose))
 
--- that is the whole of it
-given_turned : (l : List ℕ) (p : Place) (a : Turned) → given (bytes_left l (answered a), sending_of p (answered a)) ≡ send_out a
-given_turned l p a =
-    ap (λ s. (a.wrote.bytes, a.wrote.position, pos (last_border a.sent.time), bit_n a.transient, s, time_out a.sent.time))
-    (shown_record a.sent.grid)
+module _ (t : Turn) (r : Sending) (e : Ok r ≡ result_map sending (turn t)) where
+  -- the record of a frame that was sent has small counts, where it is elected
+  pub send_few : (n : ℕ) (high low : List ℕ) (x : List Float) (y : ℤ) (v : Bool) → t.chosen ≡ elect n high low x y v → Few r.grid
+  send_few n high low x y v h = let a = map_answered sending _ r e in rw a.1.1 (sent_few t a.0 n high low x y v a.1.0 h)
 
-module _ (t : Turn) (p : Place) (r : Sending) (l bs : List ℕ) (e : (r ≡ sending_of p (turn t)) × (bs ≡ bytes_left l (turn t))) (m : ℕ) (k : m ≡ code_of r.answer) where
-  -- the number of a turn
-  pub send-code : m ≡ code_of (answer_of (turn t))
-  send-code = k ∙ ap (λ x. code_of x.answer) e.0
-
-  -- one that refuses leaves the bytes as they were
-  pub not-sent : (m ≡ 0 → ⊥) → bs ≡ l
-  not-sent n = e.1 ∙ ap (bytes_left l) (has-refused (turn t) m send-code n).1
-
-  module _ (z : m ≡ 0) where
-    -- one that answers sends a frame
-    turned-of : (a : Turned) × (turn t ≡ answered a)
-    turned-of = has-answered (turn t) (sym z ∙ send-code)
-
-    -- the counts of its record are small, where it is elected
-    pub sent-few : (n : ℕ) (high low : List ℕ) (x : List Float) (y : ℤ) (v : Bool) → t.chosen ≡ elect n high low x y v → Few r.grid
-    sent-few n high low x y v h =
-        let a = turned-of in
-        let c = calls t a.0 a.1 in
-        rw (e.0 ∙ ap (sending_of p) a.1, sym c.same) (elected_few n high low x y v c.elected (sym h ∙ c.chose))
-
-    -- it is given whole
-    pub has-sent : (y : ℤ) (ns fs r0 r1 te tq : List ℕ) (la : ℤ) → y ≡ r.place.carried.border → RecordAt r.grid ns fs r0 r1 → TimesAt r.time te tq la
-        → Out (turn t) send_out (bs, r.place.position, y, bit_n r.transient, (ns, fs, r0, r1), (te, tq, la))
-    has-sent y ns fs r0 r1 te tq la h g w =
-        rw (h, g.0, g.1.0, g.1.1.0, g.1.1.1, w.0, w.1.0, w.1.1)
-        (handed_out (λ o. (bytes_left l o, sending_of p o)) given send_out (given_turned l p) (turn t) (bs, r) (rw (e.1, e.0)) turned-of)
+  -- a frame that was sent is given whole
+  pub send_given : {before : List ℕ × ℕ × ℤ × ℕ × RecordGiven × TimesGiven} (l bytes : List ℕ) (border : ℤ) → bytes ≡ bytes_left l (turn t) → border ≡ r.place.carried.border
+      → Leaves (turn t) send_out before (Ok tt) (bytes, r.place.position, border, bit_n r.transient, shown r.grid, (r.time.t_e, r.time.t_q, r.time.l_a))
+  send_given l bytes border k b =
+      let f = map_answered sending _ r e in
+      let a = f.0 in
+      rw (b, f.1.1, k ∙ ap (bytes_left l) f.1.0)
+      (leaves-answered send_out _ a _ f.1.0
+      (ap (λ s. (a.wrote.bytes, a.wrote.position, pos (last_border a.sent.time), bit_n a.transient, s, time_out a.sent.time)) (shown_record a.sent.grid)))

@@ -1,10 +1,11 @@
 // What the call of C for a turn does. sbr_c exports it.
 #![tactic(auto)]
 
-ghost use Rattle.c_values.specs.Given.{Gives};
+ghost use Rattle.c_values.specs.Given.{Leaves};
 ghost use Rattle.c_send.specs.Turns.{send_call, send_out};
 
 use c_values::give::NUMBERS;
+use sbr_bands::BandTables;
 use sbr_grid::{Refusal, SbrGrid, TimeGrid};
 use sbr_reader::Carried;
 use sbr_run::Place;
@@ -27,8 +28,8 @@ pub fn send_frame(
     t_e: &mut [u32; TimeGrid::MAX_BORDERS],
     t_q: &mut [u32; TimeGrid::MAX_NOISE_BORDERS],
     l_a: &mut i32,
-) -> u32
-    ensures { Gives
+) -> Result<(), Refusal>
+    ensures { Leaves
         (send_call num_time_slots high.now low.now samples.now variable_borders
         bytes.old position.old border.old)
         send_out (
@@ -49,40 +50,28 @@ pub fn send_frame(
         ) }
 {
     if !sbr_grid::is_slot_count(num_time_slots as usize) {
-        return Refusal::SlotCount.number();
+        return Err(Refusal::SlotCount);
     }
     if variable_borders > 1 {
-        return Refusal::Record.number();
+        return Err(Refusal::Record);
     }
-    let before = *border;
     let place = Place {
         // A turn does not look at the flag.
-        carried: Carried {
-            border: before,
-            attack: false,
-        },
+        carried: Carried::start(*border),
         position: *position as usize,
     };
     let sending = sbr_run::send_frame(
         samples,
-        high,
-        low,
+        BandTables { high, low },
         variable_borders == 1,
         num_time_slots as usize,
         bytes,
         place,
-    );
-    let answer = sending.answer;
-    let code = c_values::give::code_of(answer);
-    if code != 0 {
-        return code;
-    }
-    let last_sent = sending.place.carried.border;
-    let onset_sent = sending.transient as u32;
+    )?;
     *position = sending.place.position as u64;
-    *border = last_sent;
-    *transient = onset_sent;
+    *border = sending.place.carried.border;
+    *transient = sending.transient as u32;
     c_values::give::give_record(sending.grid, numbers, freq_res, rel_bord_0, rel_bord_1);
     c_values::give::give_times(sending.time, t_e, t_q, l_a);
-    0
+    Ok(())
 }

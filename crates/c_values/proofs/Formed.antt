@@ -1,32 +1,40 @@
 -- Laws of the record that is formed of what C hands in.
-use mathlib.Core.Path.{◌≡◌}
-use mathlib.Core.Bool.{true, false, and-eq-true_iff}
+use Rattle.std.specs.Prelude.{Err, Ok}
+use mathlib.Core.Path.{◌≡◌, refl, sym}
+use mathlib.Core.Bool.{true, false, ◌&&◌}
 use mathlib.Core.List.{List}
-use Prim.Native.Nat.{ℕ, ◌≤◌}
+use Prim.Native.Nat.{ℕ, ◌%◌}
 use native.Mathlib.Omega.{arith}
-use borrow.Author.Tests.{leb-true, le-leb}
+use borrow.Author.Tests.{leb-true}
 use lib.Dec.{leb}
 use lib.ListN.{length}
-use Rattle.sbr_grid.specs.Grid.{empty}
+use Rattle.sbr_grid.specs.declared.FrameClass.{FrameClass}
+use Rattle.sbr_grid.specs.declared.Refusal.{Refusal}
+use Rattle.sbr_grid.specs.declared.Refusal.TheVariants.{Record}
+use Rattle.sbr_grid.specs.Grid.{class_of, class_with_code}
+use Rattle.sbr_grid.proofs.Outcomes.{unless_refused, unless_answered}
 use Rattle.c_values.specs.declared.form.Handed.{Handed}
-use Rattle.c_values.specs.declared.form.Formed.{Formed}
 use Rattle.c_values.specs.Handed.{formed}
 
--- all that the test of what was handed in asks for, but that the trailing list has its count
-pub record Passed (h : Handed) (rel0 : List ℕ) : Type 0 where
-  pub class : h.frame_class ≤ 3
-  pub leading : h.num_rel_0 ≤ length rel0
+module _ (h : Handed) (rel0 rel1 : List ℕ) where
+  -- a class that is refused, by 5
+  pub not_by_class : (e : Refusal) → Err e ≡ class_with_code h.frame_class → (formed h rel0 rel1 ≡ false) × (e ≡ Record)
+  unfolding formed
+  not_by_class e k = let t = unless_refused (leb h.frame_class 3) Record e (class_of h.frame_class) k in (rw t.0 refl, t.1)
 
--- the test asks for them
-pub formed_told : (h : Handed) (rel0 rel1 : List ℕ) → formed h rel0 rel1 ≡ true → Passed h rel0
-unfolding formed
-formed_told h rel0 rel1 e = let p = simp and-eq-true_iff at e in omega (arith, leb-true, p)
+  module _ (class : FrameClass) (k : Ok class ≡ class_with_code h.frame_class) where
+    -- one that is taken
+    taken : (leb h.frame_class 3 ≡ true) × (class ≡ class_of (h.frame_class % 4))
+    taken =
+        let t = unless_answered (leb h.frame_class 3) Record (Ok (class_of h.frame_class)) (sym k) in
+        let l = leb-true h.frame_class 3 t.0 in
+        let m : h.frame_class % 4 ≡ h.frame_class = omega arith in
+        (t.0, rw m (let c = t.1 in cc))
 
--- and, where they hold, for no more than the trailing list
-pub formed_last : (h : Handed) (rel0 rel1 : List ℕ) → Passed h rel0 → leb h.num_rel_1 (length rel1) ≡ formed h rel0 rel1
-unfolding formed
-formed_last h rel0 rel1 f = rw (le-leb _ 3 f.class, le-leb _ _ f.leading)
+    -- then the lists decide
+    pub by_lists : formed h rel0 rel1 ≡ (leb h.num_rel_0 (length rel0) && leb h.num_rel_1 (length rel1))
+    unfolding formed
+    by_lists = rw (taken.0) refl
 
--- nothing formed, and the empty record: there is one such value
-pub none_formed : (r : Formed) → (r.is_formed ≡ false) × (r.grid ≡ empty) → r ≡ record { is_formed = false; grid = empty }
-none_formed r e = rw (← e.1, ← e.0)
+    pub class_is : class ≡ class_of (h.frame_class % 4)
+    class_is = taken.1

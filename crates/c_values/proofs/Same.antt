@@ -1,4 +1,5 @@
 -- A grid's record answers as the grid does: what is formed answers as what is meant.
+use Rattle.std.specs.Prelude.{Err}
 use mathlib.Core.Path.{◌≡◌, refl, sym, ap, ◌∙◌}
 use mathlib.Core.Bool.{Bool, true, false, cond}
 use mathlib.Core.List.{List}
@@ -6,7 +7,6 @@ use Prim.Native.Nat.{ℕ, ◌≤◌}
 use native.Mathlib.Omega.{arith}
 use lib.ListN.{length}
 use Rattle.sbr_grid.specs.declared.Refusal.TheVariants.{SlotCount, Record, TimeGrid}
-use Rattle.sbr_grid.specs.Refusals.{refused}
 use Rattle.sbr_grid.specs.Grid.{view_of, record_of, Grid, num_env_of}
 use Rattle.sbr_grid.proofs.Laws.{view_record, lengths}
 use Rattle.sbr_grid.specs.Times.{is_slot_count}
@@ -36,17 +36,17 @@ module _ {X : Type 0} (f : Grid → X) (x : X) (t : Grid → Bool) (within : (g 
   same g = same_by g _ _ refl refl
 
 -- the writer refuses a grid whose fields don't fit
-write_else : (l : List ℕ) (p : ℕ) (g : Grid) → fields_fit_of g ≡ false → write_grid l p g ≡ refused Record
+write_else : (l : List ℕ) (p : ℕ) (g : Grid) → fields_fit_of g ≡ false → write_grid l p g ≡ Err Record
 unfolding write_grid
 write_else l p g e = rw e
 
 -- a grid is written alike from its record
 pub write_same : (l : List ℕ) (p : ℕ) (g : Grid) → write_grid l p (view_of (record_of g)) ≡ write_grid l p g
 write_same l p g =
-    same (write_grid l p) (refused Record) fields_fit_of (λ g e. let t = fields_told g e in record { env = t.most; rel0 = t.rel0; rel1 = t.rel1 }) (write_else l p) g
+    same (write_grid l p) (Err Record) fields_fit_of (λ g e. let t = fields_told g e in record { env = t.most; rel0 = t.rel0; rel1 = t.rel1 }) (write_else l p) g
 
 -- a grid whose counts don't fit is refused by the slot count, or has no time grid
-pub time_else : (n : ℕ) (g : Grid) → counts_fit g ≡ false → time_grid n g ≡ cond (is_slot_count n) (refused TimeGrid) (refused SlotCount)
+pub time_else : (n : ℕ) (g : Grid) → counts_fit g ≡ false → time_grid n g ≡ cond (is_slot_count n) (Err TimeGrid) (Err SlotCount)
 unfolding time_grid
 time_else n g e = rw e
 

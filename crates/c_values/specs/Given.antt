@@ -1,20 +1,24 @@
 -- What C is given: 0, or the number of a refusal; and a record and a time grid in single numbers and fixed arrays.
-use Rattle.std.specs.Prelude.{◌≡◌, false, List, [], ◌∷◌, map, ℕ, ◌≤◌, ℤ, length}
+use Rattle.std.specs.Prelude.{◌≡◌, false, List, [], ◌∷◌, map, ℕ, ◌≤◌, ℤ, length, Ok, Err}
 use Rattle.bits.specs.Bits.{bit_n}
 use Rattle.sbr_grid.specs.declared.SbrGrid.{SbrGrid}
-use Rattle.sbr_grid.specs.declared.Answer.{Answer}
-use Rattle.sbr_grid.specs.declared.Answer.TheVariants.{Given, Refused}
-use Rattle.sbr_grid.specs.Refusals.{Outcome, answer_of, number_of, value_or}
+use Rattle.sbr_grid.specs.Refusals.{Outcome, number_of, value_or, result_map}
 use Rattle.sbr_grid.specs.Grid.{class_code, first, Grid}
 use Rattle.sbr_grid.specs.Times.{Times}
 
-abbrev pub code_of : Answer → ℕ
-code_of Given = 0
-code_of (Refused e) = number_of e
+-- the number of what a call comes to: 0, or that of its refusal
+abbrev pub code_of : {A : Type 0} → Outcome A → ℕ
+code_of (Ok a) = 0
+code_of (Err e) = number_of e
 
--- what a call that comes to o leaves: its number r, and its outputs, which are as before where it is refused
+-- what a call that comes to o leaves: its answer r, and its outputs, which are as before where it is refused
+pub record Leaves {A B : Type 0} (o : Outcome A) (f : A → B) (before : B) (r : Outcome (Unit {0})) (after : B) : Type 0 where
+  pub answer : r ≡ result_map (λ a. tt) o
+  pub outputs : after ≡ value_or f before o
+
+-- the same by the number r of the answer
 pub record Gives {A B : Type 0} (o : Outcome A) (f : A → B) (before : B) (r : ℕ) (after : B) : Type 0 where
-  pub code : r ≡ code_of (answer_of o)
+  pub code : r ≡ code_of o
   pub outputs : after ≡ value_or f before o
 
 -- class, envelopes, noise floors, border bytes, counts of the lists, pointer, amplitude override

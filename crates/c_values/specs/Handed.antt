@@ -1,10 +1,11 @@
 -- What C hands in: plain numbers and ranges of bytes. What can't be formed of them is refused by 5: a class above 3, a flag above 1, a
 -- range shorter than its count.
-use Rattle.std.specs.Prelude.{Bool, false, cond, ◌&&◌, List, map, ℕ, ◌%◌, leb, eqb, length}
-use Rattle.sbr_grid.specs.Grid.{class_of, first, Grid, made, record_of, empty}
+use Rattle.std.specs.Prelude.{Bool, false, ◌&&◌, List, map, ℕ, ◌%◌, leb, eqb, length}
+use Rattle.sbr_grid.specs.declared.Refusal.TheVariants.{Record}
+use Rattle.sbr_grid.specs.Refusals.{Outcome, unless}
+use Rattle.sbr_grid.specs.Grid.{class_of, first, Grid, made}
 use Rattle.sbr_writer.specs.Write.{every}
 use Rattle.c_values.specs.declared.form.Handed.{Handed}
-use Rattle.c_values.specs.declared.form.Formed.{Formed}
 
 -- what is handed in, by its class, its counts of envelopes and noise floors, border bytes, counts of lengths and pointer
 abbrev pub handed : ℕ → ℕ → ℕ → ℕ → ℕ → ℕ → ℕ → ℕ → Handed
@@ -39,6 +40,6 @@ flagged n flags = leb n (length flags) && every (λ b. leb b 1) (first 0 n flags
 abbrev pub formable : Handed → List ℕ → List ℕ → List ℕ → Bool
 formable h flags rel0 rel1 = formed h rel0 rel1 && flagged h.num_env flags
 
--- what a program forms: the record, or none and the empty record
-abbrev pub formed_of : Bool → Grid → Formed
-formed_of ok g = record { is_formed = ok; grid = cond ok (record_of g) empty }
+-- what stands behind the test that all can be formed, refused by 5 where it can't
+abbrev pub forming : {A : Type 0} → Bool → Outcome A → Outcome A
+forming ok o = unless ok Record o

@@ -1,9 +1,11 @@
 // A record from what C hands in.
-ghost use Rattle.std.specs.Prelude.{◌≡◌, false, map, [], eqb, get_or};
-ghost use Rattle.sbr_grid.specs.Grid.{first, record_of, empty};
-ghost use Rattle.c_values.specs.Handed.{grid_from, formed, flagged, formable, formed_of};
+ghost use Rattle.std.specs.Prelude.{◌≡◌, false, ◌&&◌, [], map, leb, eqb, length, Ok};
+ghost use Rattle.sbr_grid.specs.Refusals.{result_map};
+ghost use Rattle.sbr_grid.specs.Grid.{first, record_of};
+ghost use Rattle.std.specs.List.{list_all};
+ghost use Rattle.c_values.specs.Handed.{grid_from, formed, flagged, formable, forming};
 
-use sbr_grid::{FrameClass, SbrGrid};
+use sbr_grid::{FrameClass, Refusal, SbrGrid};
 
 const MAX_FLAG: u8 = 1;
 
@@ -20,87 +22,69 @@ pub struct Handed {
     pub pointer: u8,
 }
 
-// No class above 3, and no list shorter than its count.
-fn is_formed(h: Handed, rel_bord_0: &[u8], rel_bord_1: &[u8]) -> bool
-    ensures { result ≡ formed h rel_bord_0.now rel_bord_1.now }
+// Each byte is a flag: 0 or 1.
+fn are_flags(bytes: &[u8]) -> bool
+    ensures { result ≡ list_all (λ b. leb b 1) bytes.now }
 {
-    if FrameClass::MAX_CODE < h.frame_class {
-        return false;
-    }
-    if rel_bord_0.len() < h.num_rel_0 as usize {
-        return false;
-    }
-    h.num_rel_1 as usize <= rel_bord_1.len()
+    bytes.iter().all(|byte| *byte <= MAX_FLAG)
 }
 
 // The range has that many flags, each 0 or 1.
 pub fn is_flagged(range: &[u8], count: usize) -> bool
     ensures { result ≡ flagged count range.now }
 {
-    if range.len() < count {
-        return false;
-    }
-    for i in 0..count {
-        if MAX_FLAG < range[i] {
-            return false;
-        }
-    }
-    true
-}
-
-// The byte at a place below the count; 0 past it and past the range.
-fn entry(range: &[u8], count: usize, i: usize) -> u8
-    ensures { result ≡ get_or (first 0 count range.now) i 0 }
-{
-    if count <= i {
-        return 0;
-    }
-    if range.len() <= i {
-        return 0;
-    }
-    range[i]
+    count <= range.len() && are_flags(&range[..count])
 }
 
 // As many bytes of the range as the count says; the places past them are 0.
-fn entries(range: &[u8], count: usize) -> [u8; SbrGrid::MAX_REL_BORD]
-    ensures { result ≡ first 0 4 (first 0 count range.now) }
+fn entries<const N: usize>(range: &[u8], count: usize) -> [u8; N]
+    ensures { result ≡ first 0 N (first 0 count range.now) }
 {
-    [
-        entry(range, count, 0),
-        entry(range, count, 1),
-        entry(range, count, 2),
-        entry(range, count, 3),
-    ]
+    sbr_grid::padded(&range[..count.min(range.len())], 0)
 }
 
-fn flag(range: &[u8], count: usize, i: usize) -> bool
-    ensures { result ≡ get_or (map (λ b. eqb b 1) (first 0 count range.now)) i false }
+// High where the byte is 1.
+fn are_high(bytes: [u8; SbrGrid::MAX_NUM_ENV]) -> [bool; SbrGrid::MAX_NUM_ENV]
+    ensures { result ≡ map (λ b. eqb b 1) bytes }
 {
-    entry(range, count, i) == MAX_FLAG
+    bytes.map(|byte| byte == MAX_FLAG)
 }
 
-// The same as flags: high where the byte is 1.
+// The entries as flags.
 pub fn flags(range: &[u8], count: usize) -> [bool; SbrGrid::MAX_NUM_ENV]
     ensures { result ≡ first false 5 (map (λ b. eqb b 1) (first 0 count range.now)) }
 {
-    [
-        flag(range, count, 0),
-        flag(range, count, 1),
-        flag(range, count, 2),
-        flag(range, count, 3),
-        flag(range, count, 4),
-    ]
+    are_high(entries(range, count))
 }
 
-// C hands in no amplitude override, which neither bits nor borders depend on.
-fn record(h: Handed, freq_res: &[u8], rel_bord_0: &[u8], rel_bord_1: &[u8]) -> SbrGrid
-    ensures { result ≡ record_of (grid_from h freq_res.now rel_bord_0.now rel_bord_1.now) }
+// No list is shorter than its count.
+fn lists_fit(h: Handed, rel_bord_0: &[u8], rel_bord_1: &[u8]) -> bool
+    ensures { result ≡ (leb h.num_rel_0 (length rel_bord_0.now) && leb h.num_rel_1 (length rel_bord_1.now)) }
 {
+    h.num_rel_0 as usize <= rel_bord_0.len() && h.num_rel_1 as usize <= rel_bord_1.len()
+}
+
+// The record of the numbers and ranges: refused where the class is above 3 or a list is shorter than its count. C hands in no amplitude override, which
+// neither bits nor borders depend on.
+fn record(
+    h: Handed,
+    freq_res: &[u8],
+    rel_bord_0: &[u8],
+    rel_bord_1: &[u8],
+) -> Result<SbrGrid, Refusal>
+    ensures { result ≡ result_map record_of (forming
+        (formed h rel_bord_0.now rel_bord_1.now)
+        (Ok (grid_from h freq_res.now rel_bord_0.now rel_bord_1.now))) }
+{
+    let frame_class = FrameClass::try_from(h.frame_class)?;
     let num_env = h.num_env as usize;
     let num_rel_0 = h.num_rel_0 as usize;
     let num_rel_1 = h.num_rel_1 as usize;
-    SbrGrid {
-        frame_class: FrameClass::from_bits(h.frame_class),
+    if !lists_fit(h, rel_bord_0, rel_bord_1) {
+        return Err(Refusal::Record);
+    }
+    Ok(SbrGrid {
+        frame_class,
         num_env,
         num_noise: h.num_noise as usize,
         freq_res: flags(freq_res, num_env),
@@ -112,55 +96,31 @@ fn record(h: Handed, freq_res: &[u8], rel_bord_0: &[u8], rel_bord_1: &[u8]) -> S
         num_rel_1,
         pointer: h.pointer,
         amp_res_override: false,
-    }
-}
-
-// The record, or the empty one where none can be formed.
-#[derive(Clone, Copy)]
-pub struct Formed {
-    pub is_formed: bool,
-    pub grid: SbrGrid,
-}
-
-fn unformed() -> Formed
-    ensures is_formed_value { result.is_formed ≡ false }
-    ensures grid_value { result.grid ≡ empty }
-{
-    Formed {
-        is_formed: false,
-        grid: SbrGrid::empty(),
-    }
+    })
 }
 
 // What writing and energies need: the flags must be there, each 0 or 1.
-pub fn form_record(h: Handed, freq_res: &[u8], rel_bord_0: &[u8], rel_bord_1: &[u8]) -> Formed
-    ensures { result ≡ formed_of
+pub fn form_record(
+    h: Handed,
+    freq_res: &[u8],
+    rel_bord_0: &[u8],
+    rel_bord_1: &[u8],
+) -> Result<SbrGrid, Refusal>
+    ensures { result ≡ result_map record_of (forming
         (formable h freq_res.now rel_bord_0.now rel_bord_1.now)
-        (grid_from h freq_res.now rel_bord_0.now rel_bord_1.now) }
+        (Ok (grid_from h freq_res.now rel_bord_0.now rel_bord_1.now))) }
 {
-    if !is_formed(h, rel_bord_0, rel_bord_1) {
-        return unformed();
-    }
     if !is_flagged(freq_res, h.num_env as usize) {
-        return unformed();
+        return Err(Refusal::Record);
     }
-    Formed {
-        is_formed: true,
-        grid: record(h, freq_res, rel_bord_0, rel_bord_1),
-    }
+    record(h, freq_res, rel_bord_0, rel_bord_1)
 }
 
 // What a time grid needs: no flags are handed in, and none is set.
-pub fn form_borders(h: Handed, rel_bord_0: &[u8], rel_bord_1: &[u8]) -> Formed
-    ensures { result ≡ formed_of
+pub fn form_borders(h: Handed, rel_bord_0: &[u8], rel_bord_1: &[u8]) -> Result<SbrGrid, Refusal>
+    ensures { result ≡ result_map record_of (forming
         (formed h rel_bord_0.now rel_bord_1.now)
-        (grid_from h [] rel_bord_0.now rel_bord_1.now) }
+        (Ok (grid_from h [] rel_bord_0.now rel_bord_1.now))) }
 {
-    if !is_formed(h, rel_bord_0, rel_bord_1) {
-        return unformed();
-    }
-    Formed {
-        is_formed: true,
-        grid: record(h, &rel_bord_0[..0], rel_bord_0, rel_bord_1),
-    }
+    record(h, &[], rel_bord_0, rel_bord_1)
 }

@@ -4,39 +4,19 @@ ghost use Rattle.bits.specs.Bits.{bit_n};
 ghost use Rattle.sbr_grid.specs.Grid.{first, view_of};
 ghost use Rattle.c_values.specs.Given.{code_of, numbers_of, Few};
 
-use sbr_grid::{Answer, SbrGrid, TimeGrid};
+use sbr_grid::{Refusal, SbrGrid, TimeGrid};
 
 // How many numbers C is given of a record.
 pub const NUMBERS: usize = 9;
 
 // What a call answers C: 0, or the number of a refusal.
-pub fn code_of(answer: Answer) -> u32
+pub fn code_of(answer: Result<(), Refusal>) -> u32
     ensures { result ≡ code_of answer }
 {
     match answer {
-        Answer::Given => 0,
-        Answer::Refused(why) => why.number(),
+        Ok(()) => 0,
+        Err(why) => why.into(),
     }
-}
-
-fn bit(flag: bool) -> u8
-    ensures { result ≡ bit_n flag }
-{
-    flag as u8
-}
-
-// All places, 1 for high.
-fn flag_bytes(grid: SbrGrid) -> [u8; SbrGrid::MAX_NUM_ENV]
-    ensures { result ≡ map bit_n (first false 5 grid.freq_res) }
-{
-    let flags = grid.freq_res;
-    [
-        bit(flags[0]),
-        bit(flags[1]),
-        bit(flags[2]),
-        bit(flags[3]),
-        bit(flags[4]),
-    ]
 }
 
 // The counts of a frame are small: no cast cuts one.
@@ -44,9 +24,8 @@ fn numbers(grid: SbrGrid) -> [u32; NUMBERS]
     requires { Few grid }
     ensures { result ≡ numbers_of (view_of grid) }
 {
-    let class = grid.frame_class;
     [
-        class.to_bits(),
+        grid.frame_class.into(),
         grid.num_env as u32,
         grid.num_noise as u32,
         grid.var_bord_0 as u32,
@@ -54,7 +33,7 @@ fn numbers(grid: SbrGrid) -> [u32; NUMBERS]
         grid.num_rel_0 as u32,
         grid.num_rel_1 as u32,
         grid.pointer as u32,
-        bit(grid.amp_res_override) as u32,
+        grid.amp_res_override as u32,
     ]
 }
 
@@ -72,10 +51,11 @@ pub fn give_record(
     ensures rel_bord_0_after { rel_bord_0.new ≡ grid.rel_bord_0 }
     ensures rel_bord_1_after { rel_bord_1.new ≡ grid.rel_bord_1 }
 {
+    let flags = grid.freq_res;
     let leading = grid.rel_bord_0;
     let trailing = grid.rel_bord_1;
     *to_numbers = numbers(grid);
-    *freq_res = flag_bytes(grid);
+    *freq_res = flags.map(|flag| flag as u8);
     *rel_bord_0 = leading;
     *rel_bord_1 = trailing;
 }
@@ -92,8 +72,7 @@ pub fn give_times(
 {
     let borders = time.t_e;
     let noise = time.t_q;
-    let mark = time.l_a;
     *t_e = borders;
     *t_q = noise;
-    *l_a = mark;
+    *l_a = time.l_a;
 }

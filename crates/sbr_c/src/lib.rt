@@ -1,7 +1,7 @@
 // The calls of the C firmware: plain numbers and ranges of bytes, in and out. Each answers 0, or the number of a refusal, and a
 // refused call leaves everything that was lent as it was. What they do stands in c_bits, c_read, c_elect,
 // c_energies, c_quantise, c_named and c_send.
-#![tactic(auto)]
+#![tactic(auto, using(c_values::proofs::Answers::gives))]
 
 ghost use Rattle.std.specs.Prelude.{length};
 ghost use Rattle.sbr_reader.specs.Read.{read_grid};
@@ -15,7 +15,7 @@ ghost use Rattle.c_quantise.specs.Quantise.{quantise_call, quantise_out};
 ghost use Rattle.c_named.specs.Named.{named_call};
 ghost use Rattle.c_send.specs.Turns.{send_call, send_out};
 
-use c_values::give::NUMBERS;
+use c_values::give::{NUMBERS, code_of};
 use sbr_grid::{SbrGrid, TimeGrid};
 
 // sbr_grid() of a record is written at a bit position, which is moved past it; the rest of the byte in which it ends is cleared.
@@ -40,7 +40,7 @@ pub extern "C" fn sbr_write_grid(
         write_out (bytes.old, position.old)
         result (bytes.new, position.new) }
 {
-    c_bits::write_grid(
+    code_of(c_bits::write_grid(
         bytes,
         position,
         frame_class,
@@ -53,7 +53,7 @@ pub extern "C" fn sbr_write_grid(
         rel_bord_1,
         num_rel_1,
         pointer,
-    )
+    ))
 }
 
 // The borders, noise borders and mark of a record.
@@ -80,7 +80,7 @@ pub extern "C" fn sbr_derive_time_grid(
         time_out (t_e.old, t_q.old, l_a.old)
         result (t_e.new, t_q.new, l_a.new) }
 {
-    c_bits::derive_time_grid(
+    code_of(c_bits::derive_time_grid(
         num_time_slots,
         frame_class,
         num_env,
@@ -95,7 +95,7 @@ pub extern "C" fn sbr_derive_time_grid(
         t_e,
         t_q,
         l_a,
-    )
+    ))
 }
 
 // The frame at a bit position: record, time grid, whether it begins on an attack, the position after it, its last border, and whether it marks an
@@ -135,7 +135,7 @@ pub extern "C" fn sbr_read_grid(
           (t_e.new, t_q.new, l_a.new),
         ) }
 {
-    c_read::read_grid(
+    code_of(c_read::read_grid(
         bytes,
         num_time_slots,
         position,
@@ -149,7 +149,7 @@ pub extern "C" fn sbr_read_grid(
         t_e,
         t_q,
         l_a,
-    )
+    ))
 }
 
 // The grid of a frame from its samples: its record, and whether the frame has an onset.
@@ -178,7 +178,7 @@ pub extern "C" fn sbr_elect_grid(
           (numbers.new, freq_res.new, rel_bord_0.new, rel_bord_1.new),
         ) }
 {
-    c_elect::elect_grid(
+    code_of(c_elect::elect_grid(
         samples,
         high,
         low,
@@ -190,7 +190,7 @@ pub extern "C" fn sbr_elect_grid(
         freq_res,
         rel_bord_0,
         rel_bord_1,
-    )
+    ))
 }
 
 // The energies of a record's envelopes, and how many numbers they are.
@@ -221,7 +221,7 @@ pub extern "C" fn sbr_estimate_envelopes(
         (energy_out out.old) (out.old, count.old)
         result (out.new, count.new) }
 {
-    c_energies::estimate_envelopes(
+    code_of(c_energies::estimate_envelopes(
         samples,
         high,
         low,
@@ -239,7 +239,7 @@ pub extern "C" fn sbr_estimate_envelopes(
         pointer,
         out,
         count,
-    )
+    ))
 }
 
 // The quantised energies, a byte for each.
@@ -250,7 +250,7 @@ pub extern "C" fn sbr_quantise_envelopes(energy: &[f64], amp_res: u32, out: &mut
         (quantise_out out.old) out.old
         result out.new }
 {
-    c_quantise::quantise_envelopes(energy, amp_res, out)
+    code_of(c_quantise::quantise_envelopes(energy, amp_res, out))
 }
 
 // The record for named borders, resolutions and a mark.
@@ -270,7 +270,7 @@ pub extern "C" fn sbr_grid_for_borders(
         record_out (numbers.old, freq_res.old, rel_bord_0.old, rel_bord_1.old)
         result (numbers.new, freq_res.new, rel_bord_0.new, rel_bord_1.new) }
 {
-    c_named::grid_for_borders(
+    code_of(c_named::grid_for_borders(
         num_time_slots,
         borders,
         resolutions,
@@ -279,7 +279,7 @@ pub extern "C" fn sbr_grid_for_borders(
         freq_res,
         rel_bord_0,
         rel_bord_1,
-    )
+    ))
 }
 
 // A transmitter's turn: elects the grid of a frame, writes it at the bit position, where the rest of its last byte is cleared, and moves position and
@@ -323,7 +323,7 @@ pub extern "C" fn sbr_send_frame(
           (t_e.new, t_q.new, l_a.new),
         ) }
 {
-    c_send::send_frame(
+    code_of(c_send::send_frame(
         samples,
         high,
         low,
@@ -340,5 +340,5 @@ pub extern "C" fn sbr_send_frame(
         t_e,
         t_q,
         l_a,
-    )
+    ))
 }

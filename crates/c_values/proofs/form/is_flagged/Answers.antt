@@ -1,31 +1,17 @@
 -- `c_values::form::is_flagged` meets its contract.
-use mathlib.Core.Path.{sym, ◌∙◌}
-use native.Mathlib.Omega.{arith}
+use Rattle.std.proofs.Common.{◌∙◌, ap, leb}
 use borrow.Author.Tests.{le-leb, lt-leb}
-use lib.Dec.{leb}
-use Rattle.sbr_writer.proofs.Writable.{every-next, every_fails, every_done}
+use Rattle.sbr_grid.proofs.First.{first_take}
+use Rattle.sbr_writer.specs.Write.{every}
 use Rattle.c_values.specs.Handed.{flagged}
 use Rattle.c_values.proofs.form.is_flagged.Goals as goal
 
-pub returns-then-range-count : goal.returns-then-range-count
-unfolding flagged
-returns-then-range-count c = rw (lt-leb _ _ c.if-range-count.true)
+pub returns-then-count-range : goal.returns-then-count-range
+unfolding flagged every
+returns-then-count-range c =
+    rw (le-leb _ _ c.if-count-range.true)
+    (c.are_flags.ensures ∙ ap (every (λ b. leb b 1)) (first_take 0 c.args.count c.args.range.now c.if-count-range.true))
 
-pub returns-then-range-i-gt-MAX_FLAG : goal.returns-then-range-i-gt-MAX_FLAG
-unfolding flagged
-returns-then-range-i-gt-MAX_FLAG c =
-    let a = c.args in
-    rw (le-leb _ _ c.if-range-count.false)
-    (sym (every_fails (λ b. leb b 1) 0 a.count c.loop-i.i a.range.now (omega arith) (lt-leb _ 1 (omega arith))) ∙ c.loop-i.invariant.1)
-
-pub loop-i-preserved : goal.loop-i-preserved
-loop-i-preserved c =
-    let a = c.args in
-    (omega arith, sym (every-next (λ b. leb b 1) 0 a.count c.loop-i.i a.range.now (omega arith) (le-leb _ 1 (omega arith))) ∙ c.loop-i.invariant.1)
-
-pub returns : goal.returns
-unfolding flagged
-returns c =
-    let a = c.args in
-    rw (le-leb _ _ c.if-range-count.false)
-    (sym (every_done (λ b. leb b 1) 0 a.count c.loop-i.i a.range.now (omega arith)) ∙ c.loop-i.invariant.1)
+pub returns-else-count-range : goal.returns-else-count-range
+unfolding flagged every
+returns-else-count-range c = rw (lt-leb _ _ c.if-count-range.false)

@@ -1,8 +1,8 @@
--- `c_values::give::numbers` meets its contract.
+-- The class by its number, the counts by their lists.
 use Rattle.sbr_grid.proofs.Laws.{lengths}
 use Rattle.c_values.proofs.give.numbers.Goals as goal
 
 pub returns : goal.returns
 returns c =
     let l = lengths c.args.grid in
-    rw (c.to_bits.ensures, c.bit.ensures, l.env, l.rel0, l.rel1)
+    rw (c.into.ensures, l.env, l.rel0, l.rel1)
