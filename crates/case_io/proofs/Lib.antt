@@ -1,4 +1,1 @@
 pub mod Nans
-pub mod Prefix
-pub mod Signs
-pub mod Records

@@ -1,14 +1,7 @@
--- How a case holds numbers and records: tools/cases.py.
-use Rattle.std.specs.Prelude.{Bool, false, not, List, [], ◌∷◌, ℕ, ◌+◌, ◌*◌, ◌%◌, eqb, get_or}
+-- How a case holds records: tools/cases.py.
+use Rattle.std.specs.Prelude.{Bool, false, not, List, [], ◌∷◌, ℕ, ◌%◌, eqb, get_or}
 use Rattle.sbr_grid.specs.declared.SbrGrid.{SbrGrid}
 use Rattle.sbr_grid.specs.Grid.{class_of}
-
--- the number of the bytes at four places, low byte first, and of eight bytes
-abbrev pub four_bytes : List ℕ → ℕ → ℕ → ℕ → ℕ → ℕ
-four_bytes bs a b c d = get_or bs a 0 + 0x100 * get_or bs b 0 + 0x10000 * get_or bs c 0 + 0x1000000 * get_or bs d 0
-
-abbrev pub bytes_number : List ℕ → ℕ
-bytes_number bs = four_bytes bs 0 1 2 3 + 0x100000000 * four_bytes bs 4 5 6 7
 
 abbrev flag_at : List ℕ → ℕ → Bool
 flag_at bs k = not (eqb (get_or bs k 0) 0)

@@ -2,14 +2,14 @@
 // first; past the end of the input every byte is 0.
 #![tactic(auto)]
 
-ghost use Rattle.std.specs.Prelude.{◌≡◌, ◌≤◌, ◌%◌, nat_abs, length, replicate, not, eqb};
+ghost use Rattle.std.specs.Prelude.{◌≡◌, ◌≤◌, length, not, eqb};
 ghost use Rattle.std.specs.Float.Ieee.{of_bits};
 ghost use Rattle.std.specs.Float.{binary64};
-ghost use Rattle.sbr_grid.specs.Grid.{class_of};
-ghost use Rattle.case_io.specs.Counts.{CountsFirst};
-ghost use Rattle.case_io.specs.Layout.{bytes_number, bytes_grid};
+ghost use Rattle.case_io.specs.Layout.{bytes_grid};
 
 use sbr_grid::{FrameClass, Refusal, SbrGrid, TimeGrid};
+use std::fmt::Display;
+use std::io;
 use std::io::Read;
 
 // Most entries of a table, and most samples, that a case hands in.
@@ -20,322 +20,204 @@ pub const MAX_SAMPLES: usize = 6500;
 // Bytes of a record.
 const RECORD_SIZE: usize = 21;
 
-// Samples that are all 0.0. Lending the array needs its length.
-pub fn silence() -> [f64; MAX_SAMPLES]
-    ensures long { 6500 ≡ length result }
-    ensures zeros { result ≡ replicate 6500 (of_bits binary64 0) }
-{
-    [0.0; MAX_SAMPLES]
-}
-
-// 65,536 bytes of 0. Lending the array needs its length.
-pub fn large_buffer() -> [u8; 65536]
-    ensures { 65536 ≡ length result }
-{
-    [0; 65536]
-}
-
 // Reads what is there, at least a byte where the input has not ended; 0 past its end, and where it can't be read.
 fn read_some(rt: &impl Input, buf: &mut [u8]) -> usize
-    ensures { CountsFirst result buf.new }
+    ensures { result ≤ length buf.old }
 {
     rt.reader().read(buf).unwrap_or(0)
 }
 
-// Reads from the input until the range is full or the input ends; answers how many bytes it put at the range's front. An input that can't be read any
+// Reads from the input until the range is full, what was read is enough or the input ends; answers what was read. An input that can't be read any
 // further counts as one that ends.
-pub fn read_full(rt: &impl Input, buf: &mut [u8]) -> usize
-    ensures { CountsFirst result buf.new }
+pub fn read_until<'a, F: Fn(&[u8]) -> bool>(
+    rt: &impl Input,
+    buf: &'a mut [u8],
+    is_enough: F,
+) -> &'a [u8]
+    requires { F.IsAlwaysCallable is_enough }
+    ensures { length result.now ≤ length buf.old }
 {
+    // No chain: how far each step goes is what the input gives.
     let mut done = 0;
-    while done < buf.len() {
-        let more = read_some(rt, &mut buf[done..]);
-        if more == 0 {
-            return done;
+    while done < buf.len() && !is_enough(&buf[..done]) {
+        match read_some(rt, &mut buf[done..]) {
+            0 => break,
+            more => done += more,
         }
-        done += more;
     }
-    done
+    &buf[..done]
 }
 
-// The next byte of the input; 0 past its end.
+// Reads from the input until the range is full or the input ends; answers what was read.
+pub fn read_full<'a>(rt: &impl Input, buf: &'a mut [u8]) -> &'a [u8]
+    ensures { length result.now ≤ length buf.old }
+{
+    read_until(rt, buf, |_| false)
+}
+
+// The next N bytes of the input; 0 past its end.
+pub fn next_bytes<R: Input, const N: usize>(rt: &R) -> [u8; N] {
+    let mut bytes = [0u8; N];
+    read_full(rt, &mut bytes);
+    bytes
+}
+
+// A byte, a number of eight bytes, a number of two or `most` where it is larger, a signed number of four, and a flag, each 0 past the end.
 pub fn next_byte(rt: &impl Input) -> u8 {
-    let mut byte = [0u8; 1];
-    read_full(rt, &mut byte);
-    byte[0]
+    u8::from_le_bytes(next_bytes(rt))
 }
 
-fn wide(byte: u8) -> u64
-    ensures value { result ≡ byte }
-    ensures small { result ≤ 255 }
-{
-    byte as u64
+pub fn next_size(rt: &impl Input) -> usize {
+    usize::from_le_bytes(next_bytes(rt))
 }
 
-// The number of eight bytes, low byte first.
-fn number_of(b: [u8; 8]) -> u64
-    ensures { result ≡ bytes_number b }
-{
-    let low = wide(b[0]) + 0x100 * wide(b[1]) + 0x10000 * wide(b[2]) + 0x1000000 * wide(b[3]);
-    let high = wide(b[4]) + 0x100 * wide(b[5]) + 0x10000 * wide(b[6]) + 0x1000000 * wide(b[7]);
-    low + 0x100000000 * high
-}
-
-// The number of the next `size` bytes, low byte first.
-pub fn next_number(rt: &impl Input, size: usize) -> u64
-    requires { size ≤ 8 }
-{
-    let mut bytes = [0u8; 8];
-    read_full(rt, &mut bytes[..size]);
-    number_of(bytes)
-}
-
-// The number of the next two bytes, or `most` where it is larger.
 pub fn next_count(rt: &impl Input, most: usize) -> usize
     ensures { result ≤ most }
 {
-    let n = next_number(rt, 2) as usize;
-    if n < most { n } else { most }
+    usize::from(u16::from_le_bytes(next_bytes(rt))).min(most)
 }
 
-// The signed number of the next four bytes.
 pub fn next_signed(rt: &impl Input) -> i32 {
-    let a = next_byte(rt) as i32;
-    let b = next_byte(rt) as i32;
-    let c = next_byte(rt) as i32;
-    let d = next_byte(rt) as i32;
-    a | (b << 8) | (c << 16) | (d << 24)
+    i32::from_le_bytes(next_bytes(rt))
 }
 
 pub fn next_flag(rt: &impl Input) -> bool {
-    flag(next_byte(rt))
+    next_byte(rt) != 0
 }
 
-// The double of a bit pattern. Those above infinity's, less the sign, are NaN's.
+// The double of a bit pattern. Those above infinity's, less the sign, are NaN's, which `from_bits` does not take.
+#[tactic(auto, using(std::proofs::lemmas::Float::not_nan_f64_bits, crate::proofs::Nans::large_nan))]
 fn double(bits: u64) -> f64
     ensures { result ≡ of_bits binary64 bits }
 {
     if bits % 0x8000000000000000 <= 0x7FF0000000000000 {
-        return f64::from_bits(bits);
+        f64::from_bits(bits)
+    } else {
+        f64::NAN
     }
-    0.0 / 0.0
 }
 
-// Fills the start of a table, and answers how many entries it has.
-pub fn read_table(rt: &impl Input, table: &mut [u8]) -> usize
-    requires { 255 ≤ length table.old }
-    ensures { CountsFirst result table.new }
-{
-    let n = next_byte(rt) as usize;
-    for i in 0..n {
-        table[i] = next_byte(rt);
-    }
-    n
+// Fills the start of a table, and answers the entries that it has.
+pub fn read_table<'a>(rt: &impl Input, table: &'a mut [u8; MAX_TABLE]) -> &'a [u8] {
+    let count = usize::from(next_byte(rt));
+    read_full(rt, &mut table[..count]);
+    &table[..count]
 }
 
-// Sets the samples that are listed, and answers how many are handed in.
-pub fn read_samples(rt: &impl Input, x: &mut [f64]) -> usize
-    requires { 6500 ≤ length x.old }
-    ensures { CountsFirst result x.new }
-{
+// Sets the samples that are listed, and answers those that are handed in.
+pub fn read_samples<'a>(rt: &impl Input, x: &'a mut [f64; MAX_SAMPLES]) -> &'a [f64] {
     let count = next_count(rt, MAX_SAMPLES);
-    let listed = next_count(rt, MAX_SAMPLES);
-    for _ in 0..listed {
+    for _ in 0..next_count(rt, MAX_SAMPLES) {
         let i = next_count(rt, MAX_SAMPLES - 1);
-        x[i] = double(next_number(rt, 8));
+        x[i] = double(u64::from_le_bytes(next_bytes(rt)));
     }
-    count
-}
-
-fn flag(byte: u8) -> bool
-    ensures { result ≡ not (eqb byte 0) }
-{
-    byte != 0
-}
-
-fn count(byte: u8) -> usize
-    ensures { result ≡ byte }
-{
-    byte as usize
-}
-
-fn class(byte: u8) -> FrameClass
-    ensures { result ≡ class_of (byte % 4) }
-{
-    FrameClass::from_bits(byte as u32)
+    &x[..count]
 }
 
 // The record of 21 bytes: class, counts of envelopes and noise floors, 5 resolutions, border bytes, each list's count and 4 lengths, pointer.
 fn grid_of(b: [u8; RECORD_SIZE]) -> SbrGrid
     ensures { result ≡ bytes_grid b }
 {
-    let frame_class = class(b[0]);
     SbrGrid {
-        frame_class,
-        num_env: count(b[1]),
-        num_noise: count(b[2]),
-        freq_res: [flag(b[3]), flag(b[4]), flag(b[5]), flag(b[6]), flag(b[7])],
+        frame_class: FrameClass::from_bits(u32::from(b[0])),
+        num_env: usize::from(b[1]),
+        num_noise: usize::from(b[2]),
+        freq_res: [b[3] != 0, b[4] != 0, b[5] != 0, b[6] != 0, b[7] != 0],
         var_bord_0: b[8],
         var_bord_1: b[9],
         rel_bord_0: [b[11], b[12], b[13], b[14]],
-        num_rel_0: count(b[10]),
+        num_rel_0: usize::from(b[10]),
         rel_bord_1: [b[16], b[17], b[18], b[19]],
-        num_rel_1: count(b[15]),
+        num_rel_1: usize::from(b[15]),
         pointer: b[20],
         amp_res_override: false,
     }
 }
 
 pub fn read_grid(rt: &impl Input) -> SbrGrid {
-    let mut bytes = [0u8; RECORD_SIZE];
-    read_full(rt, &mut bytes);
-    grid_of(bytes)
+    grid_of(next_bytes(rt))
 }
 
-// What can't be written is passed over, here and below.
-pub fn print(rt: &impl Print, text: &[u8]) {
-    let _ = rt.write_all(text);
-}
-
-// A name and a number.
-pub fn print_field(rt: &impl Print, name: &[u8], value: u64) {
-    print(rt, name);
-    let _ = print!(rt; "{value}");
-}
-
-pub fn print_flag(rt: &impl Print, name: &[u8], flag: bool) {
-    print(rt, name);
-    if flag {
-        print(rt, b"1");
-    } else {
-        print(rt, b"0");
-    }
-}
-
-pub fn print_class(rt: &impl Print, class: FrameClass) {
-    match class {
-        FrameClass::FixFix => print(rt, b"FixFix"),
-        FrameClass::FixVar => print(rt, b"FixVar"),
-        FrameClass::VarFix => print(rt, b"VarFix"),
-        FrameClass::VarVar => print(rt, b"VarVar"),
+// Takes each case of the input, handing on the number that its first `size` bytes hold, until the input ends or a line can't be written. Nothing says
+// that an input ends, so the cases count up to a number that no run reaches.
+pub fn each_case<F: Fn(u32) -> io::Result<()>>(rt: &impl Input, size: usize, print_case: F)
+    requires few { size ≤ 4 }
+    requires any { F.IsAlwaysCallable print_case }
+{
+    for _ in 0..u64::MAX {
+        let mut head = [0u8; 4];
+        let is_whole = read_full(rt, &mut head[..size]).len() == size;
+        if !is_whole || print_case(u32::from_le_bytes(head)).is_err() {
+            break;
+        }
     }
 }
 
 // A letter for each of the envelopes.
-pub fn print_resolutions(rt: &impl Print, freq_res: [bool; SbrGrid::MAX_NUM_ENV], num_env: usize) {
-    for i in 0..SbrGrid::MAX_NUM_ENV {
-        if i < num_env {
-            if freq_res[i] {
-                print(rt, b"H");
-            } else {
-                print(rt, b"L");
-            }
-        }
+pub fn print_resolutions(rt: &impl Print, grid: &SbrGrid) -> io::Result<()> {
+    for high in &grid.freq_res[..grid.num_env.min(SbrGrid::MAX_NUM_ENV)] {
+        print!(rt; "{}", if *high { 'H' } else { 'L' })?;
     }
+    Ok(())
 }
 
-// A name and the first `count` lengths.
-fn print_lengths(rt: &impl Print, name: &[u8], lengths: [u8; SbrGrid::MAX_REL_BORD], count: usize) {
-    print(rt, name);
-    for i in 0..SbrGrid::MAX_REL_BORD {
-        if i < count {
-            print_field(rt, b" ", wide(lengths[i]));
-        }
+// Numbers, each after a blank.
+fn print_numbers<T: Display>(rt: &impl Print, numbers: &[T]) -> io::Result<()> {
+    for number in numbers {
+        print!(rt; " {number}")?;
     }
+    Ok(())
 }
 
-pub fn print_grid(rt: &impl Print, grid: SbrGrid) {
-    let class = grid.frame_class;
-    let freq_res = grid.freq_res;
-    let rel_bord_0 = grid.rel_bord_0;
-    let rel_bord_1 = grid.rel_bord_1;
-    print_class(rt, class);
-    print(rt, b" ");
-    print_resolutions(rt, freq_res, grid.num_env);
-    print_field(rt, b" b0 ", grid.var_bord_0 as u64);
-    print_field(rt, b" b1 ", grid.var_bord_1 as u64);
-    print_lengths(rt, b" rel0", rel_bord_0, grid.num_rel_0);
-    print_lengths(rt, b" rel1", rel_bord_1, grid.num_rel_1);
-    print_field(rt, b" p ", grid.pointer as u64);
-    print_field(rt, b" noise ", grid.num_noise as u64);
-    print_flag(rt, b" amp ", grid.amp_res_override);
+// Class, resolutions, border bytes, lengths of both sides, pointer, noise floors and override. Of a count that is too large the whole list is printed.
+pub fn print_grid(rt: &impl Print, grid: &SbrGrid) -> io::Result<()> {
+    print!(rt; "{} ", grid.frame_class)?;
+    print_resolutions(rt, grid)?;
+    print!(rt; " b0 {} b1 {} rel0", grid.var_bord_0, grid.var_bord_1)?;
+    print_numbers(
+        rt,
+        &grid.rel_bord_0[..grid.num_rel_0.min(SbrGrid::MAX_REL_BORD)],
+    )?;
+    print!(rt; " rel1")?;
+    print_numbers(
+        rt,
+        &grid.rel_bord_1[..grid.num_rel_1.min(SbrGrid::MAX_REL_BORD)],
+    )?;
+    print!(rt;
+        " p {} noise {} amp {}",
+        grid.pointer,
+        grid.num_noise,
+        u8::from(grid.amp_res_override)
+    )
 }
 
-pub fn print_refusal(rt: &impl Print, why: Refusal) {
-    print_field(rt, b"refused ", why.number() as u64);
+pub fn print_refusal(rt: &impl Print, why: Refusal) -> io::Result<()> {
+    print!(rt; "refused {}", u32::from(why))
 }
 
 // The bits of a double; a NaN has none of its own.
-pub fn print_double(rt: &impl Print, x: f64) {
-    print(rt, b" ");
-    if x == x {
-        let bits = f64::to_bits(x);
-        let _ = print!(rt; "{bits:016x}");
-    } else {
-        print(rt, b"nan");
+pub fn print_double(rt: &impl Print, x: f64) -> io::Result<()> {
+    if x.is_nan() {
+        return print!(rt; " nan");
     }
-}
-
-// A number without its sign.
-pub fn magnitude(n: i32) -> u64
-    ensures { result ≡ nat_abs n }
-{
-    if n < 0 {
-        return (-1 - n) as u64 + 1;
-    }
-    n as u64
-}
-
-// A name and a number that may be below 0.
-pub fn print_signed(rt: &impl Print, name: &[u8], n: i32) {
-    print(rt, name);
-    if n < 0 {
-        print(rt, b"-");
-    }
-    let size = magnitude(n);
-    let _ = print!(rt; "{size}");
-}
-
-// A border after a blank.
-fn print_border(rt: &impl Print, border: u32) {
-    print_field(rt, b" ", border as u64);
-}
-
-// A frame's borders up to the one at `last`.
-fn print_borders(rt: &impl Print, t_e: [u32; TimeGrid::MAX_BORDERS], last: usize) {
-    for i in 0..TimeGrid::MAX_BORDERS {
-        if i <= last {
-            print_border(rt, t_e[i]);
-        }
-    }
-}
-
-// Its noise borders up to the one at `last`.
-fn print_noise(rt: &impl Print, t_q: [u32; TimeGrid::MAX_NOISE_BORDERS], last: usize) {
-    for i in 0..TimeGrid::MAX_NOISE_BORDERS {
-        if i <= last {
-            print_border(rt, t_q[i]);
-        }
-    }
+    print!(rt; " {:016x}", x.to_bits())
 }
 
 // A time grid: borders, noise borders, mark.
-pub fn print_times(rt: &impl Print, time: TimeGrid) {
-    let t_e = time.t_e;
-    let t_q = time.t_q;
-    print_borders(rt, t_e, time.num_env);
-    print(rt, b" /");
-    print_noise(rt, t_q, time.num_noise);
-    print_signed(rt, b" / ", time.l_a);
-}
-
-fn print_byte(rt: &impl Print, byte: u8) {
-    let _ = print!(rt; "{byte:02x}");
+pub fn print_times(rt: &impl Print, time: &TimeGrid) -> io::Result<()> {
+    print_numbers(rt, &time.t_e[..=time.num_env.min(SbrGrid::MAX_NUM_ENV)])?;
+    print!(rt; " /")?;
+    print_numbers(
+        rt,
+        &time.t_q[..=time.num_noise.min(TimeGrid::MAX_NOISE_BORDERS - 1)],
+    )?;
+    print!(rt; " / {}", time.l_a)
 }
 
 // Every byte of a range.
-pub fn print_bytes(rt: &impl Print, bytes: &[u8]) {
-    for i in 0..bytes.len() {
-        print_byte(rt, bytes[i]);
+pub fn print_bytes(rt: &impl Print, bytes: &[u8]) -> io::Result<()> {
+    for byte in bytes {
+        print!(rt; "{byte:02x}")?;
     }
+    Ok(())
 }

@@ -2,20 +2,18 @@
 // standard output nothing.
 #![tactic(auto)]
 
-use sbr_grid::Refusal;
-use sbr_make::Made;
+// Most bytes of a text that are read.
+const MAX_SIZE: usize = 65536;
 
-fn print_refusal(rt: &impl Eprint, line: usize, why: Refusal) {
-    let number = why.number();
-    let _ = eprintln!(rt; "line {line} refused {number}");
-}
-
+// What can't be written is passed over.
 fn main(rt: HostRuntime) {
-    let mut text = case_io::large_buffer();
-    let got = case_io::read_full(&rt, &mut text);
+    let mut text = [0u8; MAX_SIZE];
+    let text = case_io::read_full(&rt, &mut text);
     let mut stream = [0u8; sbr_make::STREAM_SIZE];
-    match sbr_make::make_stream(&text[..got], &mut stream) {
-        Made::Stream(len) => case_io::print(&rt, &stream[..len]),
-        Made::Refused(line, why) => print_refusal(&rt, line, why),
-    }
+    let _ = match sbr_make::make_stream(text, &mut stream) {
+        Ok(len) => rt.write_all(&stream[..len]),
+        Err(refused) => {
+            eprintln!(rt; "line {} refused {}", refused.line, u32::from(refused.why))
+        }
+    };
 }

@@ -36,7 +36,7 @@ digit_below a d c h = omega arith
 
 digits_same : (ds es : List ℕ) (a b : ℕ) → a < cap (length ds) → b < cap (length ds) → length ds ≡ length es → ((k : ℕ) → get_or ds k 0 < 32)
     → ((k : ℕ) → get_or es k 0 < 32) → with_digits a ds ≡ with_digits b es → (a ≡ b) × (ds ≡ es)
-unfolding with_digits cap
+unfolding cap
 digits_same [] [] a b i j l s t h = (h, refl)
 digits_same [] (e ∷ es) a b i j l s t h = absurd (omega arith)
 digits_same (d ∷ ds) [] a b i j l s t h = absurd (omega arith)

@@ -1,5 +1,6 @@
 -- A frame in one number: whether it begins on an attack and its class, three bits, then digits of base 32.
 use Rattle.std.specs.Prelude.{◌≡◌, Bool, List, [], ◌∷◌, ◌++◌, ℕ, ◌+◌, ◌*◌, ◌%◌, ◌^◌, ◌<◌, ℤ, pos, negsuc, length, get_or}
+use Rattle.std.specs.List.{fold}
 use Rattle.bits.specs.Bits.{bit_n, num_of}
 use Rattle.sbr_grid.specs.declared.SbrGrid.{SbrGrid}
 use Rattle.sbr_grid.specs.declared.TimeGrid.{TimeGrid}
@@ -9,9 +10,8 @@ use Rattle.sbr_grid.specs.Grid.{class_code}
 abbrev pub with_digit : ℕ → ℕ → ℕ
 with_digit a d = a % 2 ^ 59 * 32 + d % 32
 
-unfoldable pub with_digits : ℕ → List ℕ → ℕ
-with_digits a [] = a
-with_digits a (d ∷ ds) = with_digits (with_digit a d) ds
+abbrev pub with_digits : ℕ → List ℕ → ℕ
+with_digits a ds = fold with_digit a ds
 
 -- the marks 0, 1, .. are even, -1, -2, .. are odd
 abbrev pub mark_number : ℤ → ℕ

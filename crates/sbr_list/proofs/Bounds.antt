@@ -1,4 +1,5 @@
 -- A frame that was read has few and small numbers.
+use Rattle.std.specs.Prelude.{Ok}
 use mathlib.Core.Path.{◌≡◌}
 use mathlib.Core.Bool.{true, and-eq-true_iff}
 use mathlib.Core.List.{List, [], ◌∷◌}
@@ -10,7 +11,6 @@ use borrow.Author.Tests.{lt-ltb, le-ltb, le-leb, lt-leb}
 use lib.IntN.{ℤ, pos, negsuc, ◌-ℤ◌}
 use lib.ListN.{length, get_or, get_or-eq_default}
 use lib.Signed.{mag}
-use Rattle.sbr_grid.specs.Refusals.{answered}
 use Rattle.sbr_grid.specs.Grid.{Grid, num_env_of}
 use Rattle.sbr_grid.specs.Times.{Times}
 use Rattle.sbr_time_grid.specs.TimeGrid.{by_pointer, t_e_of, t_q_of, l_a_of, noise_fits, middle_border, list_from, time_grid}
@@ -66,7 +66,7 @@ mark_small g h k =
     (each_pointer Q g.pointer _ _ _ none none (omega arith)) (each_pointer Q g.pointer _ _ _ none at at)
 
 -- the time grid of a record that passes the tests, with a pointer of at most its envelope count
-module _ (n : ℕ) (g : Grid) (t : Times) (e : time_grid n g ≡ answered t) (h : g.pointer ≤ num_env_of g) where
+module _ (n : ℕ) (g : Grid) (t : Times) (e : time_grid n g ≡ Ok t) (h : g.pointer ≤ num_env_of g) where
   border-few : (l : ℕ) → l < num_env_of g + 1 → t_e_of n g l < 100
   border-few l k =
       let p = time_passes n g t e in
@@ -114,7 +114,7 @@ pub record Shows (i : ℕ) (f : Accepted) : Type 0 where
   pub rel0 : length f.grid.rel_bord_0 ≤ 4
   pub rel1 : length f.grid.rel_bord_1 ≤ 4
 
-pub frame_shows : (l : List ℕ) (p n : ℕ) (c : Carried) (f : Accepted) (i : ℕ) → read_grid l p n c ≡ answered f → i < 1000 → Shows i f
+pub frame_shows : (l : List ℕ) (p n : ℕ) (c : Carried) (f : Accepted) (i : ℕ) → read_grid l p n c ≡ Ok f → i < 1000 → Shows i f
 frame_shows l p n c f i e h =
     let w = frame_writes l p n c f e in
     let s = simp and-eq-true_iff at w.written.fits in

@@ -1,4 +1,5 @@
 -- A listing looks at 26 bits for each frame.
+use Rattle.std.specs.Prelude.{Ok, Err}
 use mathlib.Core.Path.{◌≡◌, refl}
 use mathlib.Core.Bool.{Bool, true, false}
 use mathlib.Core.List.{List, [], ◌∷◌, ◌++◌}
@@ -13,7 +14,7 @@ use Rattle.bits.specs.Room.{end_of, bits_from}
 use Rattle.bits.proofs.Stream.{bits_at-add, length-bits_at, bits_alike}
 use Rattle.sbr_grid.specs.declared.Refusal.{Refusal}
 use Rattle.sbr_grid.specs.declared.Refusal.TheVariants.{SlotCount, Chain}
-use Rattle.sbr_grid.specs.Refusals.{Outcome, answered, refused, value_or, unless}
+use Rattle.sbr_grid.specs.Refusals.{Outcome, value_or, unless}
 use Rattle.sbr_grid.specs.Grid.{Grid}
 use Rattle.sbr_grid.specs.Times.{Times, is_number, is_slot_count}
 use Rattle.sbr_time_grid.specs.TimeGrid.{time_grid}
@@ -29,8 +30,8 @@ use Rattle.sbr_list.specs.Enough.{most_input, EnoughInput}
 -- bits behind those that are read move no position
 pub more_behind : (n : ℕ) (from : Carried) (p : ℕ) (xs ys : List Bool) (o : Outcome (Grid × List Bool))
     → parsed n from p (length (xs ++ ys)) (behind ys o) ≡ parsed n from p (length xs) o
-more_behind n from p xs ys (refused e) = refl
-more_behind n from p xs ys (answered r) =
+more_behind n from p xs ys (Err e) = refl
+more_behind n from p xs ys (Ok r) =
     let q : length (xs ++ ys) - length (r.1 ++ ys) ≡ length xs - length r.1 =
     omega (arith, length-append xs ys, length-append r.1 ys) in
     rw q
@@ -75,8 +76,8 @@ within_test false e o m h = omega arith
 
 within-timed : (n : ℕ) (from : Carried) (g : Grid) (q m : ℕ) → q ≤ m → (o : Outcome Times) → Within m (timed n from g q o)
 unfolding meets
-within-timed n from g q m h (answered t) = within_test (is_number from.border (get_or t.t_e 0 0 + n)) Chain _ m h
-within-timed n from g q m h (refused e) = omega arith
+within-timed n from g q m h (Ok t) = within_test (is_number from.border (get_or t.t_e 0 0 + n)) Chain _ m h
+within-timed n from g q m h (Err e) = omega arith
 
 within-parsed : (n : ℕ) (from : Carried) (p : ℕ) (bs : List Bool) → Within (p + 26) (parsed n from p (length bs) (sbr_grid bs))
 within-parsed n from p bs = go (seen_grid bs)
@@ -91,13 +92,13 @@ unfolding read_grid
 within-read l p n from = within_test (is_slot_count n) SlotCount _ (p + 26) (within-parsed n from p (bits_from l p))
 
 -- a frame takes at most 26 bits
-frame_short : (l : List ℕ) (p n : ℕ) (from : Carried) (f : Accepted) → read_grid l p n from ≡ answered f → f.position ≤ p + 26
+frame_short : (l : List ℕ) (p n : ℕ) (from : Carried) (f : Accepted) → read_grid l p n from ≡ Ok f → f.position ≤ p + 26
 frame_short l p n from f h = rw h at (within-read l p n from)
 
 -- a line and what follows it depends on what follows an accepted frame only
-same_line : (i : ℕ) (f g : Accepted → List ℕ) (o : Outcome Accepted) → ((a : Accepted) → o ≡ answered a → f a ≡ g a) → and_then i f o ≡ and_then i g o
-same_line i f g (answered a) h = rw (h a refl)
-same_line i f g (refused e) h = refl
+same_line : (i : ℕ) (f g : Accepted → List ℕ) (o : Outcome Accepted) → ((a : Accepted) → o ≡ Ok a → f a ≡ g a) → and_then i f o ≡ and_then i g o
+same_line i f g (Ok a) h = rw (h a refl)
+same_line i f g (Err e) h = refl
 
 -- lines of frames that all lie in the first k bytes
 lines_front : (l : List ℕ) (k n c i p : ℕ) (from : Carried) → k ≤ most_input → p + 26 * c ≤ 8 * k → lines_from (take k l) n c i p from ≡ lines_from l n c i p from

@@ -1,5 +1,4 @@
 pub mod Lines
-pub mod Signs
 pub mod Whole
 pub mod Bounds
 pub mod Pages

@@ -1,4 +1,5 @@
 -- What was read of a listing's frames stays, whatever follows.
+use Rattle.std.specs.Prelude.{Ok, Err}
 use mathlib.Core.Path.{◌≡◌, refl, sym, ◌∙◌}
 use mathlib.Core.Bool.{Bool, true, false}
 use mathlib.Core.List.{List, [], ◌∷◌, ◌++◌, append_assoc}
@@ -14,7 +15,7 @@ use Rattle.bits.specs.Room.{end_of, bits_from}
 use Rattle.bits.proofs.Stream.{bits_at-add, bits_alike}
 use Rattle.sbr_grid.specs.declared.Refusal.{Refusal}
 use Rattle.sbr_grid.specs.declared.Refusal.TheVariants.{SlotCount, Samples, Tables, Room, Record, TimeGrid, BitsEnd, EnvelopeCount, Chain, NoGrid}
-use Rattle.sbr_grid.specs.Refusals.{Outcome, answered, refused}
+use Rattle.sbr_grid.specs.Refusals.{Outcome}
 use Rattle.sbr_grid.specs.Times.{is_slot_count}
 use Rattle.sbr_parse.specs.Syntax.{sbr_grid}
 use Rattle.sbr_parse.proofs.Monad.{Seen}
@@ -46,13 +47,13 @@ bits_more l m p = go (dec_le p (end_of (length l)))
         (bits_from (l ++ m) p, rw a)
 
 -- an accepted frame is accepted with more bits behind it
-parsed_more : (n : ℕ) (from : Carried) (p : ℕ) (xs ys : List Bool) (f : Accepted) → parsed n from p (length xs) (sbr_grid xs) ≡ answered f
-    → parsed n from p (length (xs ++ ys)) (sbr_grid (xs ++ ys)) ≡ answered f
+parsed_more : (n : ℕ) (from : Carried) (p : ℕ) (xs ys : List Bool) (f : Accepted) → parsed n from p (length xs) (sbr_grid xs) ≡ Ok f
+    → parsed n from p (length (xs ++ ys)) (sbr_grid (xs ++ ys)) ≡ Ok f
 parsed_more n from p xs ys f h = go (seen_grid xs)
   where
-    go : Seen 26 Sent sbr_grid xs → parsed n from p (length (xs ++ ys)) (sbr_grid (xs ++ ys)) ≡ answered f
+    go : Seen 26 Sent sbr_grid xs → parsed n from p (length (xs ++ ys)) (sbr_grid (xs ++ ys)) ≡ Ok f
     go (Seen.full g u r e j s t) =
-        let a : sbr_grid xs ≡ answered (g, r) = rw e (t.reads r) in
+        let a : sbr_grid xs ≡ Ok (g, r) = rw e (t.reads r) in
         let c : sbr_grid (xs ++ ys) ≡ behind ys (sbr_grid xs) = rw (a, e, append_assoc u r ys, t.reads (r ++ ys)) in
         rw c (more_behind n from p xs ys (sbr_grid xs) ∙ h)
     go (Seen.none e q never) = let z : ◌≡◌ {A = ℕ} 0 1 = cc (rw q at h) in absurd (omega arith)
@@ -112,28 +113,28 @@ lines_long l n zero i p from h = absurd (omega arith)
 lines_long l n (suc c) i p from h = go (read_grid l p n from)
   where
     go : (o : Outcome Accepted) → 2 ≤ length (and_then i (λ f. lines_from l n c (i + 1) f.position (carrying f.border f.ends_on_attack)) o)
-    go (answered f) = frame_long i f _
-    go (refused e) = refusal_long i e
+    go (Ok f) = frame_long i f _
+    go (Err e) = refusal_long i e
 
 -- ---- listings
 
 module _ (l m : List ℕ) where
-  read_more : (p n : ℕ) (from : Carried) (f : Accepted) → read_grid l p n from ≡ answered f → read_grid (l ++ m) p n from ≡ answered f
+  read_more : (p n : ℕ) (from : Carried) (f : Accepted) → read_grid l p n from ≡ Ok f → read_grid (l ++ m) p n from ≡ Ok f
   unfolding read_grid
   read_more p n from f h = go (is_slot_count n) refl
     where
-      go : (t : Bool) → is_slot_count n ≡ t → read_grid (l ++ m) p n from ≡ answered f
+      go : (t : Bool) → is_slot_count n ≡ t → read_grid (l ++ m) p n from ≡ Ok f
       go true e =
           let ys = bits_more l m p in
           rw (e, ys.1) (parsed_more n from p (bits_from l p) ys.0 f (rw e at h))
       go false e = let z : ◌≡◌ {A = ℕ} 0 1 = cc (rw e at h) in absurd (omega arith)
 
 -- a line and what follows it, with more input
-lines_step : (i : ℕ) (more now : Accepted → List ℕ) (p o : Outcome Accepted) → ((f : Accepted) → o ≡ answered f → p ≡ answered f)
+lines_step : (i : ℕ) (more now : Accepted → List ℕ) (p o : Outcome Accepted) → ((f : Accepted) → o ≡ Ok f → p ≡ Ok f)
     → ((f : Accepted) → 1 ≤ length (now f) → 2 ≤ length (now f)) → ((f : Accepted) → settled (now f) ≡ true → more f ≡ now f)
     → settled (and_then i now o) ≡ true → and_then i more p ≡ and_then i now o
-lines_step i more now p (refused e) same long rest h = absurd (not_refused i e h)
-lines_step i more now p (answered f) same long rest h = rw (same f refl, rest f (settled-append (frame_line i f) (now f) (long f) h))
+lines_step i more now p (Err e) same long rest h = absurd (not_refused i e h)
+lines_step i more now p (Ok f) same long rest h = rw (same f refl, rest f (settled-append (frame_line i f) (now f) (long f) h))
 
 lines_more : (l m : List ℕ) (n c i p : ℕ) (from : Carried) → settled (lines_from l n c i p from) ≡ true → lines_from (l ++ m) n c i p from ≡ lines_from l n c i p from
 unfolding lines_from

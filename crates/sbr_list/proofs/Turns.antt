@@ -1,38 +1,37 @@
 -- The turns of the loop over frames.
-use mathlib.Core.Path.{◌≡◌, refl, sym, ap, ◌∙◌}
+use Rattle.std.specs.Prelude.{Ok, Err}
+use mathlib.Core.Path.{◌≡◌, refl, ap, ◌∙◌}
 use mathlib.Core.Bool.{false}
 use mathlib.Core.List.{List, [], ◌∷◌, ◌++◌}
 use Prim.Native.Nat.{ℕ, suc, ◌+◌, ◌-◌, ◌*◌, ◌≤◌, ◌<◌}
-use native.Mathlib.Nat.{zero-add}
 use native.Mathlib.Omega.{arith}
 use lib.IntN.{pos}
 use lib.ListN.{length, get_or, take, drop, length-append, length-drop}
 use lib.Seq.{sets, length-sets, take_all}
-use Rattle.sbr_grid.specs.declared.Answer.TheVariants.{Given, Refused}
 use Rattle.sbr_grid.specs.declared.Refusal.{Refusal}
 use Rattle.sbr_grid.specs.declared.Refusal.TheVariants.{BitsEnd}
-use Rattle.sbr_grid.specs.Refusals.{Outcome, answered, refused, answer_of}
+use Rattle.sbr_grid.specs.Refusals.{result_map}
 use Rattle.sbr_grid.specs.Grid.{record_of}
 use Rattle.sbr_grid.proofs.Laws.{view_record}
 use Rattle.sbr_grid.proofs.First.{first-first}
 use Rattle.sbr_grid.specs.Times.{time_record}
 use Rattle.sbr_reader.specs.declared.FrameRead.{FrameRead}
 use Rattle.sbr_reader.specs.declared.Carried.{Carried}
-use Rattle.sbr_reader.specs.Read.{Accepted, read_grid, carrying, starting, frame_read_of}
-use Rattle.sbr_list.specs.declared.text.Line.{Line}
+use Rattle.sbr_reader.specs.Read.{Accepted, read_grid, carrying, starting, frame_read}
+use Rattle.sbr_reader.proofs.Reached.{mapped_ok, mapped_err}
 use Rattle.sbr_list.specs.Listing.{frame_line, refusal_line, lines_from, listing, over}
-use Rattle.sbr_list.specs.Line.{line_of, text_of, Short, shown_of}
+use Rattle.sbr_list.specs.Line.{Short, shown_of}
 use Rattle.sbr_list.proofs.Whole.{length_frame, length_refusal}
-use Rattle.sbr_list.proofs.Pages.{sets_append, sets_over, text_line}
+use Rattle.sbr_list.proofs.Pages.{sets_append, sets_over}
 use Rattle.sbr_list.proofs.Bounds.{Shows, frame_shows}
 
 -- the lines from frame i on, where a frame is read, where it is refused, and where there is none
-lines_frame : (l : List ℕ) (n k i p : ℕ) (c : Carried) (f : Accepted) → i < k → read_grid l p n c ≡ answered f
+lines_frame : (l : List ℕ) (n k i p : ℕ) (c : Carried) (f : Accepted) → i < k → read_grid l p n c ≡ Ok f
     → lines_from l n (k - i) i p c ≡ frame_line i f ++ lines_from l n (k - (i + 1)) (i + 1) f.position (carrying f.border f.ends_on_attack)
 unfolding lines_from
 lines_frame l n k i p c f h e = let s : k - i ≡ suc (k - (i + 1)) = omega arith in rw (s, e)
 
-lines_refused : (l : List ℕ) (n k i p : ℕ) (c : Carried) (e : Refusal) → i < k → read_grid l p n c ≡ refused e
+lines_refused : (l : List ℕ) (n k i p : ℕ) (c : Carried) (e : Refusal) → i < k → read_grid l p n c ≡ Err e
     → lines_from l n (k - i) i p c ≡ refusal_line i e
 unfolding lines_from
 lines_refused l n k i p c e h f = let s : k - i ≡ suc (k - (i + 1)) = omega arith in rw (s, f)
@@ -49,20 +48,19 @@ pub record Reached (l : List ℕ) (n k : ℕ) (c₀ : Carried) (page₀ page : L
   pub text : sets page at (lines_from l n (k - i) i p c) ≡ sets page₀ 0 (lines_from l n k 0 0 c₀)
   pub long : at + length (lines_from l n (k - i) i p c) ≡ length (lines_from l n k 0 0 c₀)
 
--- a line that holds a text
-pub record Holds (w : Line) (t : List ℕ) : Type 0 where
-  pub len : w.len ≡ length t
-  pub text : text_of w ≡ t
-  pub few : w.len ≤ 64
+-- a line that is a text
+pub record Holds (w t : List ℕ) : Type 0 where
+  pub text : w ≡ t
+  pub len : length w ≡ length t
+  pub few : length w ≤ 64
 
-holds : (w : Line) (t : List ℕ) → w ≡ line_of t → length t ≤ 64 → Holds w t
-unfolding line_of
-holds w t e h = let n : w.len ≡ length t = ap (λ x. x.len) e in record { len = n; text = ap text_of e ∙ text_line t h; few = omega arith }
+holds : (w t : List ℕ) → w ≡ t → length t ≤ 64 → Holds w t
+holds w t e h = let n : length w ≡ length t = ap length e in record { text = e; len = n; few = omega arith }
 
 -- what a reading that answers tells
 pub record Read (l : List ℕ) (p n : ℕ) (c : Carried) (r : FrameRead) (i : ℕ) : Type 0 where
   pub frame : Accepted
-  pub outcome : read_grid l p n c ≡ answered frame
+  pub outcome : read_grid l p n c ≡ Ok frame
   pub short : Short i frame
   pub shown : shown_of r.grid r.time ≡ record { grid = frame.grid; time = frame.time; begins_on_attack = false; position = 0; border = 0; ends_on_attack = false }
   pub position : r.position ≡ frame.position
@@ -82,28 +80,18 @@ shown_frame f i s =
       first-first 0 3 f.time.t_q s.short.times.noise,
     )
 
-read_as : (l : List ℕ) (p n : ℕ) (c : Carried) (r : FrameRead) (i : ℕ) (o : Outcome Accepted) → read_grid l p n c ≡ o → r ≡ frame_read_of p c o
-    → r.answer ≡ Given → i < 1000 → Read l p n c r i
-read_as l p n c r i (answered f) e h g k =
-    let s = frame_shows l p n c f i e k in
+pub read_given : (l : List ℕ) (p n : ℕ) (c : Carried) (r : FrameRead) (i : ℕ) → Ok r ≡ result_map frame_read (read_grid l p n c) → i < 1000 → Read l p n c r i
+read_given l p n c r i h k =
+    let f = mapped_ok frame_read (read_grid l p n c) r h in
+    let s = frame_shows l p n c f.0 i f.1 k in
     record {
-      frame = f;
-      outcome = e;
+      frame = f.0;
+      outcome = f.1;
       short = s.short;
-      shown = rw h (shown_frame f i s);
-      position = ap (λ x. x.position) h;
-      carried = ap (λ x. x.carried) h;
+      shown = ap (λ x. shown_of x.grid x.time) f.2 ∙ shown_frame f.0 i s;
+      position = ap (λ x. x.position) f.2;
+      carried = ap (λ x. x.carried) f.2;
     }
-read_as l p n c r i (refused x) e h g k = let z : ◌≡◌ {A = ℕ} 0 1 = cc (ap (λ x. x.answer) h) in absurd (omega arith)
-
-pub read_given : (l : List ℕ) (p n : ℕ) (c : Carried) (r : FrameRead) (i : ℕ) → r ≡ frame_read_of p c (read_grid l p n c)
-    → r.answer ≡ Given → i < 1000 → Read l p n c r i
-read_given l p n c r i h g k = read_as l p n c r i (read_grid l p n c) refl h g k
-
--- a reading that refuses
-refused_as : (o : Outcome Accepted) (e : Refusal) → answer_of o ≡ Refused e → o ≡ refused e
-refused_as (answered f) e h = let z : ◌≡◌ {A = ℕ} 0 1 = cc in absurd (omega arith)
-refused_as (refused x) e h = let z : x ≡ e = cc in ap refused z
 
 -- the line that is put for a frame, and the one for a refusal
 module _ (l : List ℕ) (p n : ℕ) (c : Carried) (r : FrameRead) (i : ℕ) (h : Read l p n c r i) where
@@ -112,28 +100,18 @@ module _ (l : List ℕ) (p n : ℕ) (c : Carried) (r : FrameRead) (i : ℕ) (h :
       let s = h.short in
       rw h.shown (record { number = s.number; times = s.times; flags = s.flags })
 
-  pub frame-holds : (w : Line) → w ≡ line_of (frame_line i (shown_of r.grid r.time)) → Holds w (frame_line i h.frame)
+  pub frame-holds : (w : List ℕ) → w ≡ frame_line i (shown_of r.grid r.time) → Holds w (frame_line i h.frame)
   unfolding frame_line
-  frame-holds w e = holds w _ (e ∙ ap (λ x. line_of (frame_line i x)) h.shown) (length_frame i h.frame h.short)
+  frame-holds w e = holds w _ (e ∙ ap (frame_line i) h.shown) (length_frame i h.frame h.short)
 
-pub refusal_holds : (i : ℕ) (e : Refusal) (w : Line) → w ≡ line_of (refusal_line i e) → Holds w (refusal_line i e)
+pub refusal_holds : (i : ℕ) (e : Refusal) (w : List ℕ) → w ≡ refusal_line i e → Holds w (refusal_line i e)
 refusal_holds i e w h = holds w _ h (length_refusal i e)
 
 module _ (l : List ℕ) (n k : ℕ) (c₀ : Carried) (page₀ : List ℕ) where
-  -- before the first frame
-  pub reached_none : (c : Carried) → c ≡ c₀ → Reached l n k c₀ page₀ page₀ 0 0 c 0
-  reached_none c e = record {
-    turn = omega arith;
-    few = omega arith;
-    size = refl;
-    text = rw (native.Mathlib.Nat.sub-zero, e);
-    long = rw (native.Mathlib.Nat.sub-zero, e, zero-add);
-  }
-
   module _ (page : List ℕ) (at p : ℕ) (c : Carried) (i : ℕ) (s : Reached l n k c₀ page₀ page at p c i) where
     -- after a frame more
-    pub reached-frame : i < k → (r : FrameRead) (h : Read l p n c r i) (w : Line) → Holds w (frame_line i h.frame) → (q : ℕ) (next : List ℕ)
-        → q ≡ at + w.len → next ≡ sets page at (text_of w) → Reached l n k c₀ page₀ next q r.position r.carried (i + 1)
+    pub reached-frame : i < k → (r : FrameRead) (h : Read l p n c r i) (w : List ℕ) → Holds w (frame_line i h.frame) → (q : ℕ) (next : List ℕ)
+        → q ≡ at + length w → next ≡ sets page at w → Reached l n k c₀ page₀ next q r.position r.carried (i + 1)
     reached-frame d r h w t q next e f =
         let line = frame_line i h.frame in
         let rest = lines_from l n (k - (i + 1)) (i + 1) h.frame.position (carrying h.frame.border h.frame.ends_on_attack) in
@@ -141,8 +119,8 @@ module _ (l : List ℕ) (n k : ℕ) (c₀ : Carried) (page₀ : List ℕ) where
         record {
           turn = omega arith;
           few = omega (arith, s.few, t.few);
-          size = rw f (length-sets page at (text_of w)) ∙ s.size;
-          text = rw (h.position, h.carried, f, e, t.text, t.len, ← (sets_append page at line rest), ← m) s.text;
+          size = rw f (length-sets page at w) ∙ s.size;
+          text = rw (h.position, h.carried, f, e, t.text, ← (sets_append page at line rest), ← m) s.text;
           long = rw (h.position, h.carried) (omega (arith, s.long, t.len, length-append line rest, ap length m));
         }
 
@@ -154,11 +132,11 @@ module _ (l : List ℕ) (n k : ℕ) (c₀ : Carried) (page₀ : List ℕ) where
         let z : at + length t ≡ length (lines_from l n k 0 0 c₀) = rw m at s.long in
         (e ∙ z, rw f ((rw m at s.text) ∙ sets_over page₀ (lines_from l n k 0 0 c₀) (omega arith)))
 
-    pub reached-refused : i < k → k ≤ 255 → 16384 ≤ length page₀ → (r : FrameRead) (x : Refusal) → r ≡ frame_read_of p c (read_grid l p n c)
-        → r.answer ≡ Refused x → (w : Line) → Holds w (refusal_line i x) → (q : ℕ) (next : List ℕ) → q ≡ at + w.len → next ≡ sets page at (text_of w)
+    pub reached-refused : i < k → k ≤ 255 → 16384 ≤ length page₀ → (x : Refusal) → Err x ≡ result_map frame_read (read_grid l p n c)
+        → (w : List ℕ) → Holds w (refusal_line i x) → (q : ℕ) (next : List ℕ) → q ≡ at + length w → next ≡ sets page at w
         → (q ≡ length (lines_from l n k 0 0 c₀)) × (next ≡ over (lines_from l n k 0 0 c₀) page₀)
-    reached-refused d g a r x h y w t q next e f =
-        let o = refused_as (read_grid l p n c) x (ap (λ z. z.answer) (sym h) ∙ y) in
+    reached-refused d g a x h w t q next e f =
+        let o = mapped_err frame_read (read_grid l p n c) x h in
         reached-end (refusal_line i x) (lines_refused l n k i p c x d o) (omega (arith, s.few, t.len, t.few)) q next
         (omega (arith, t.len)) (rw t.text at f)
 
@@ -182,8 +160,8 @@ listing_long (a ∷ b ∷ []) h = absurd (omega arith)
 listing_long (a ∷ b ∷ c ∷ l) h = refl
 
 -- the two ways of `list_grids`
-pub listed_short : (l page next : List ℕ) (w : Line) (q : ℕ) → length l < 3 → 64 ≤ length page → Holds w (refusal_line 0 BitsEnd)
-    → q ≡ 0 + w.len → next ≡ sets page 0 (text_of w) → (q ≡ length (listing l)) × (next ≡ over (listing l) page)
+pub listed_short : (l page next : List ℕ) (w : List ℕ) (q : ℕ) → length l < 3 → 64 ≤ length page → Holds w (refusal_line 0 BitsEnd)
+    → q ≡ 0 + length w → next ≡ sets page 0 w → (q ≡ length (listing l)) × (next ≡ over (listing l) page)
 listed_short l page next w q h s t e f =
     rw (listing_short l h) (omega (arith, t.len), f ∙ rw t.text (sets_over page (refusal_line 0 BitsEnd) (omega (arith, t.len, t.few))))
 

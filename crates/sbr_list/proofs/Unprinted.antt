@@ -1,9 +1,10 @@
 -- No line depends on the flag that is carried.
+use Rattle.std.specs.Prelude.{Ok, Err}
 use mathlib.Core.Path.{◌≡◌, refl}
 use mathlib.Core.Bool.{Bool}
 use mathlib.Core.List.{List}
 use Prim.Native.Nat.{ℕ, zero, suc, ◌+◌}
-use Rattle.sbr_grid.specs.Refusals.{Outcome, answered, refused}
+use Rattle.sbr_grid.specs.Refusals.{Outcome}
 use Rattle.sbr_reader.specs.declared.Carried.{Carried}
 use Rattle.sbr_reader.specs.Read.{Accepted, read_grid, carrying, starting}
 use Rattle.sbr_reader.specs.Flag.{begun}
@@ -15,8 +16,8 @@ line_unprinted : (i : ℕ) (rest : ℕ → Carried → List ℕ) (a : Bool) (o :
     → and_then i (λ f. rest f.position (carrying f.border f.ends_on_attack)) (begun a o)
     ≡ and_then i (λ f. rest f.position (carrying f.border f.ends_on_attack)) o
 unfolding frame_line
-line_unprinted i rest a (answered f) = refl
-line_unprinted i rest a (refused e) = refl
+line_unprinted i rest a (Ok f) = refl
+line_unprinted i rest a (Err e) = refl
 
 pub flag_unprinted : FlagUnprinted
 unfolding lines_from

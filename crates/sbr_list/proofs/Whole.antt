@@ -12,10 +12,9 @@ use Rattle.sbr_grid.specs.declared.Refusal.{Refusal}
 use Rattle.sbr_grid.specs.declared.Refusal.TheVariants.{SlotCount, Samples, Tables, Room, Record, TimeGrid, BitsEnd, EnvelopeCount, Chain, NoGrid}
 use Rattle.sbr_grid.specs.Refusals.{number_of}
 use Rattle.sbr_reader.specs.Read.{Accepted}
-use Rattle.sbr_list.specs.declared.text.Line.{Line}
-use Rattle.sbr_list.specs.Listing.{decimal, signed, spaced, class_name, resolution, stroke, frame_line, refusal_line}
-use Rattle.sbr_list.specs.Line.{line_of, with_text, Small, Short, times_text}
-use Rattle.sbr_list.proofs.Lines.{line_whole, decimal_one, decimal_two, decimal_three, behind, spaced_behind}
+use Rattle.sbr_list.specs.Listing.{decimal, signed, behind, spaced, class_name, resolution, stroke, frame_line, refusal_line}
+use Rattle.sbr_list.specs.Line.{with_text, Small, Short, times_text}
+use Rattle.sbr_list.proofs.Lines.{line_whole, decimal_one, decimal_two, decimal_three, spaced_behind}
 
 digits : (n : ℕ) → Dec (suc n ≤ 10) → Dec (suc n ≤ 100) → (length (decimal n) ≤ 3) × (n < 100 → length (decimal n) ≤ 2)
 digits n (yes a) d = rw (decimal_one n a) (omega arith)
@@ -86,15 +85,15 @@ unfolding refusal_line
 length_refusal i e = simp length-append (omega (arith, length-decimal i, length-decimal (number_of e)))
 
 -- parts that were put behind one another are a frame's line
-pub frame_whole : (r : Line) (i : ℕ) (f : Accepted) → Short i f
-    → r ≡ with_text (line_of []) (((((((decimal i ++ (32 ∷ [])) ++ class_name f.grid.frame_class) ++ (32 ∷ [])) ++ times_text f.time) ++ stroke) ++ map resolution f.grid.freq_res) ++ (10 ∷ []))
-    → r ≡ line_of (frame_line i f)
+pub frame_whole : (r : List ℕ) (i : ℕ) (f : Accepted) → Short i f
+    → r ≡ with_text [] (((((((decimal i ++ (32 ∷ [])) ++ class_name f.grid.frame_class) ++ (32 ∷ [])) ++ times_text f.time) ++ stroke) ++ map resolution f.grid.freq_res) ++ (10 ∷ []))
+    → r ≡ frame_line i f
 unfolding frame_line
 frame_whole r i f s e = rw (← (line_whole (frame_line i f) (length_frame i f s))) (simp append_assoc at e)
 
-pub refusal_whole : (r : Line) (i : ℕ) (e : Refusal) (m : ℕ) → m ≡ number_of e
-    → r ≡ with_text (line_of []) (((decimal i ++ (32 ∷ 114 ∷ 101 ∷ 102 ∷ 117 ∷ 115 ∷ 101 ∷ 100 ∷ 32 ∷ [])) ++ decimal m) ++ (10 ∷ []))
-    → r ≡ line_of (refusal_line i e)
+pub refusal_whole : (r : List ℕ) (i : ℕ) (e : Refusal) (m : ℕ) → m ≡ number_of e
+    → r ≡ with_text [] (((decimal i ++ (32 ∷ 114 ∷ 101 ∷ 102 ∷ 117 ∷ 115 ∷ 101 ∷ 100 ∷ 32 ∷ [])) ++ decimal m) ++ (10 ∷ []))
+    → r ≡ refusal_line i e
 unfolding refusal_line
 refusal_whole r i e m f g =
     rw (← (line_whole (refusal_line i e) (length_refusal i e))) (simp (f, append_assoc) at g)

@@ -1,5 +1,5 @@
--- One line of the listing as the program holds it: 64 bytes, of which the first `len` are its text.
-use Rattle.std.specs.Prelude.{false, cond, List, [], ◌∷◌, ◌++◌, ℕ, ◌+◌, ◌≤◌, ◌<◌, ltb, length, get_or, set}
+-- One line of the listing as the program holds it: at most 64 bytes.
+use Rattle.std.specs.Prelude.{false, List, ◌++◌, ℕ, ◌+◌, ◌≤◌, ◌<◌, length, get_or, take}
 use Rattle.std.specs.Int.Signed.{mag}
 use Rattle.sbr_grid.specs.declared.SbrGrid.{SbrGrid}
 use Rattle.sbr_grid.specs.Grid.{first, view_of}
@@ -7,24 +7,10 @@ use Rattle.sbr_grid.specs.declared.TimeGrid.{TimeGrid}
 use Rattle.sbr_grid.specs.Times.{Times}
 use Rattle.sbr_reader.specs.Read.{Accepted}
 use Rattle.sbr_list.specs.Listing.{spaced, signed, stroke}
-use Rattle.sbr_list.specs.declared.text.Line.{Line}
 
--- a text as a line: zeros follow it
-unfoldable pub line_of : List ℕ → Line
-line_of text = record { bytes = first 0 64 text; len = length text }
-
--- and the text of a line
-abbrev pub text_of : Line → List ℕ
-text_of w = first 0 w.len w.bytes
-
--- a byte behind the text of a line; a full line stays as it is
-abbrev pub with_byte : Line → ℕ → Line
-with_byte w b = cond (ltb w.len 64) (record { bytes = set w.bytes w.len b; len = w.len + 1 }) w
-
--- a text behind that of a line
-unfoldable pub with_text : Line → List ℕ → Line
-with_text w [] = w
-with_text w (b ∷ text) = with_text (with_byte w b) text
+-- a text behind that of a line, as far as there is room
+unfoldable pub with_text : List ℕ → List ℕ → List ℕ
+with_text w text = take 64 (w ++ text)
 
 -- numbers of at most two digits
 abbrev pub Small : List ℕ → Type 0

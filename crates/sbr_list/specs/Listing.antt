@@ -1,9 +1,9 @@
 -- What `gridlist` prints: docs/ORDER.md, GL. Text is a list of bytes.
-use Rattle.std.specs.Prelude.{◌≡◌, Bool, true, false, cond, List, [], ◌∷◌, ◌++◌, map, ℕ, zero, suc, ◌+◌, ◌/◌, ◌%◌, ltb, ℤ, pos, negsuc, length, drop}
+use Rattle.std.specs.Prelude.{◌≡◌, Bool, true, false, cond, List, [], ◌∷◌, ◌++◌, map, ℕ, zero, suc, ◌+◌, ◌/◌, ◌%◌, ltb, ℤ, pos, negsuc, length, drop, Ok, Err}
 use Rattle.sbr_grid.specs.declared.FrameClass.{FrameClass}
 use Rattle.sbr_grid.specs.declared.Refusal.{Refusal}
 use Rattle.sbr_grid.specs.declared.Refusal.TheVariants.{BitsEnd}
-use Rattle.sbr_grid.specs.Refusals.{Outcome, answered, refused, number_of}
+use Rattle.sbr_grid.specs.Refusals.{Outcome, number_of}
 use Rattle.sbr_grid.specs.Grid.{by_class}
 use Rattle.sbr_reader.specs.declared.Carried.{Carried}
 use Rattle.sbr_reader.specs.Read.{Accepted, read_grid, carrying, starting}
@@ -18,7 +18,11 @@ unfoldable pub signed : ℤ → List ℕ
 signed (pos n) = decimal n
 signed (negsuc n) = 45 ∷ decimal (suc n)
 
--- numbers with a blank between
+-- numbers with a blank before each, and with a blank between
+unfoldable pub behind : List ℕ → List ℕ
+behind [] = []
+behind (x ∷ xs) = 32 ∷ (decimal x ++ behind xs)
+
 unfoldable pub spaced : List ℕ → List ℕ
 spaced [] = []
 spaced (x ∷ []) = decimal x
@@ -55,8 +59,8 @@ refusal_line i e = decimal i ++ (32 ∷ 114 ∷ 101 ∷ 102 ∷ 117 ∷ 115 ∷ 
 
 -- a frame's line and what follows it; a refusal ends the list
 abbrev pub and_then : ℕ → (Accepted → List ℕ) → Outcome Accepted → List ℕ
-and_then i next (answered f) = frame_line i f ++ next f
-and_then i next (refused e) = refusal_line i e
+and_then i next (Ok f) = frame_line i f ++ next f
+and_then i next (Err e) = refusal_line i e
 
 -- k frames from number i on, each read from the position that the one before left and with what it left to carry
 unfoldable pub lines_from : List ℕ → ℕ → ℕ → ℕ → ℕ → Carried → List ℕ

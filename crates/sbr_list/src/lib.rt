@@ -1,15 +1,12 @@
 // The listing of a stream of grids: what the program `gridlist` prints.
 #![tactic(auto)]
 
-ghost use Rattle.std.specs.Prelude.{◌≡◌, ◌+◌, ◌≤◌, pos, length};
+ghost use Rattle.std.specs.Prelude.{◌≡◌, ◌+◌, ◌≤◌, length};
 ghost use Rattle.std.proofs.lemmas.List.Edits.{sets};
-ghost use Rattle.sbr_reader.specs.Read.{starting};
 ghost use Rattle.sbr_list.specs.Listing.{lines_from, listing, over};
-ghost use Rattle.sbr_list.specs.Line.{text_of};
 
-use sbr_grid::{Answer, Refusal};
+use sbr_grid::Refusal;
 use sbr_reader::Carried;
-use text::Line;
 
 mod text;
 
@@ -19,19 +16,16 @@ pub const PAGE_SIZE: usize = 16384;
 // The most bytes of input that 255 frames need: three, and 26 bits a frame.
 pub const MOST_INPUT: usize = 832;
 
-// A line at a place of the page; the answer is the place behind it.
-fn put(page: &mut [u8], at: usize, line: Line) -> usize
-    requires room { at + 64 ≤ length page.old }
-    requires whole { line.len ≤ 64 }
-    ensures next { result ≡ at + line.len }
-    ensures text { page.new ≡ sets page.old at (text_of line) }
+// A text at a place of the page; the answer is the place behind it.
+#[tactic(auto, using(crate::proofs::Pages::put_text))]
+fn put(page: &mut [u8], at: usize, text: &[u8]) -> usize
+    requires { at + length text.now ≤ length page.old }
+    ensures next { result ≡ at + length text.now }
+    ensures text { page.new ≡ sets page.old at text.now }
 {
-    let bytes = line.bytes;
-    let len = line.len;
-    for j in 0..len {
-        page[at + j] = bytes[j];
-    }
-    at + len
+    let end = at + text.len();
+    page[at..end].copy_from_slice(text);
+    end
 }
 
 // The lines of frames over the front of the page; the answer is their length.
@@ -45,34 +39,17 @@ fn frames(bits: &[u8], slots: usize, count: usize, carried: Carried, page: &mut 
     let mut position = 0;
     let mut carried = carried;
     for i in 0..count {
-        let reading = sbr_reader::read_grid(bits, position, slots, carried);
-        let answer = reading.answer;
-        if let Answer::Refused(why) = answer {
-            return put(page, at, text::refusal_line(i, why));
+        match sbr_reader::read_grid(bits, position, slots, carried) {
+            Ok(read) => {
+                let line = text::frame_line(i, &read.grid, &read.time);
+                at = put(page, at, line.as_bytes());
+                position = read.position;
+                carried = read.carried;
+            }
+            Err(why) => return put(page, at, text::refusal_line(i, why).as_bytes()),
         }
-        let grid = reading.grid;
-        let time = reading.time;
-        at = put(page, at, text::frame_line(i, grid, time));
-        position = reading.position;
-        let next = reading.carried;
-        carried = next;
     }
     at
-}
-
-// A byte as a count, at most 255.
-fn wide(b: u8) -> usize
-    ensures same { result ≡ b }
-    ensures few { result ≤ 255 }
-{
-    b as usize
-}
-
-// What a first frame is read from: a byte as the border, the flag clear.
-fn first_carried(b: u8) -> Carried
-    ensures { result ≡ starting (pos b) }
-{
-    Carried::start(b as i32)
 }
 
 // The listing of an input over the front of the page; the answer is its length.
@@ -81,13 +58,13 @@ pub fn list_grids(input: &[u8], page: &mut [u8; PAGE_SIZE]) -> usize
     ensures text { page.new ≡ over (listing input.now) page.old }
 {
     if input.len() < 3 {
-        return put(page, 0, text::refusal_line(0, Refusal::BitsEnd));
+        return put(page, 0, text::refusal_line(0, Refusal::BitsEnd).as_bytes());
     }
     frames(
         &input[3..],
-        wide(input[0]),
-        wide(input[2]),
-        first_carried(input[1]),
+        usize::from(input[0]),
+        usize::from(input[2]),
+        Carried::start(i32::from(input[1])),
         page,
     )
 }

@@ -1,197 +1,155 @@
 // One line of a listing.
-ghost use Rattle.std.specs.Prelude.{◌≡◌, false, [], ◌∷◌, map, ◌+◌, ◌≤◌, ◌<◌, length, nat_abs};
+ghost use Rattle.std.specs.Prelude.{◌≡◌, [], ◌∷◌, ◌≤◌, ◌<◌, length, map};
 ghost use Rattle.std.specs.Int.Signed.{mag};
-ghost use Rattle.sbr_grid.specs.Grid.{first, view_of};
-ghost use Rattle.sbr_list.specs.Listing.{decimal, signed, spaced, class_name, resolution, frame_line, refusal_line};
-ghost use Rattle.sbr_list.specs.Line.{line_of, with_text, Small, ShortTimes, Short, times_text, times_of, shown_of};
+ghost use Rattle.sbr_list.specs.Listing.{spaced, behind, class_name, resolution, frame_line, refusal_line};
+ghost use Rattle.sbr_list.specs.Line.{with_text, Small, ShortTimes, Short, times_text, times_of, shown_of};
 
+use arrayvec::ArrayVec;
+use itoa::{Buffer, Integer};
 use sbr_grid::{FrameClass, Refusal, SbrGrid, TimeGrid};
 
-// A text of at most Line::SIZE bytes.
-#[derive(Clone, Copy)]
+// A text of at most SIZE bytes. It is no `fmt::Write`: of a `write!` that may fail no contract says what it wrote.
+#[derive(Drop)]
 pub struct Line {
-    pub bytes: [u8; Line::SIZE],
-    // How many of the bytes are the text.
-    pub len: usize,
+    bytes: ArrayVec<u8, SIZE>,
+    ghost few: { length bytes.items ≤ 64 },
 }
 
-impl Line {
-    pub const SIZE: usize = 64;
+// Most bytes of a line.
+const SIZE: usize = 64;
 
+impl Line {
     // The line of no text.
     fn new() -> Self
-        ensures { result ≡ line_of [] }
+        ensures { result.bytes.items ≡ [] }
     {
         Line {
-            bytes: [0u8; Line::SIZE],
-            len: 0,
+            bytes: ArrayVec::new(),
         }
     }
 
-    // A byte behind the text; a full line stays as it is.
-    fn byte(self, b: u8) -> Self
-        ensures { result ≡ with_text self (b ∷ []) }
+    pub fn as_bytes(&self) -> &[u8]
+        ensures text { result.now ≡ self.now.bytes.items }
+        ensures few { length result.now ≤ 64 }
     {
-        let at = self.len;
-        if at < Line::SIZE {
-            let mut bytes = self.bytes;
-            bytes[at] = b;
-            return Line { bytes, len: at + 1 };
-        }
+        self.bytes.as_slice()
+    }
+
+    // A text behind that of the line, as far as there is room.
+    fn text(mut self, text: &[u8]) -> Self
+        ensures { result.bytes.items ≡ with_text self.bytes.items text.now }
+    {
+        let room = self.bytes.remaining_capacity().min(text.len());
+        let _ = self.bytes.try_extend_from_slice(&text[..room]);
         self
     }
 
-    // Bytes behind the text.
-    fn bytes(self, text: &[u8]) -> Self
-        ensures { result ≡ with_text self text.now }
+    // A number in base ten behind the text.
+    fn number<I: Integer>(self, n: I) -> Self
+        ensures { result.bytes.items ≡ with_text self.bytes.items (I.text n) }
+    {
+        self.text(Buffer::new().format(n).as_bytes())
+    }
+
+    // Numbers with a blank before each, behind the text.
+    #[tactic(auto, using(crate::proofs::Lines::behind_next, crate::proofs::Lines::behind_done, crate::proofs::Lines::decimal_is))]
+    fn others(self, numbers: &[u32]) -> Self
+        requires { Small numbers.now }
+        ensures { result.bytes.items ≡ with_text self.bytes.items (behind numbers.now) }
     {
         let mut line = self;
-        for j in 0..text.len() {
-            line = line.byte(text[j]);
+        for number in numbers {
+            line = line.text(b" ").number(*number);
         }
         line
     }
 
-    // A digit behind the text.
-    fn digit(self, d: usize) -> Self
-        requires { d < 10 }
-        ensures { result ≡ with_text self ((48 + d) ∷ []) }
+    // Numbers with a blank between, behind the text.
+    fn numbers(self, numbers: &[u32]) -> Self
+        requires { Small numbers.now }
+        ensures { result.bytes.items ≡ with_text self.bytes.items (spaced numbers.now) }
     {
-        self.byte(48 + d as u8)
-    }
-
-    // A number in base ten behind the text.
-    fn decimal(self, n: usize) -> Self
-        requires { n < 1000 }
-        ensures { result ≡ with_text self (decimal n) }
-    {
-        if n < 10 {
-            return self.digit(n);
+        match numbers {
+            [] => self,
+            [first, others @ ..] => self.number(*first).others(others),
         }
-        if n < 100 {
-            return self.digit(n / 10).digit(n % 10);
-        }
-        self.digit(n / 100).digit(n / 10 % 10).digit(n % 10)
-    }
-
-    // A number that may be negative behind the text.
-    fn signed(self, n: i32) -> Self
-        requires { mag n < 100 }
-        ensures { result ≡ with_text self (signed n) }
-    {
-        if n < 0 {
-            return self.byte(b'-').decimal(magnitude(n));
-        }
-        self.decimal(magnitude(n))
-    }
-
-    // The name of a class behind the text.
-    fn class(self, class: FrameClass) -> Self
-        ensures { result ≡ with_text self (class_name class) }
-    {
-        let name = name(class);
-        self.bytes(&name)
-    }
-
-    // The borders up to the last one, with a blank between, behind the text.
-    fn borders(self, borders: &[u32], last: usize) -> Self
-        requires within { last < length borders.now }
-        requires small { Small (first 0 (last + 1) borders.now) }
-        ensures { result ≡ with_text self (spaced (first 0 (last + 1) borders.now)) }
-    {
-        let mut line = self.decimal(borders[0] as usize);
-        for j in 1..last + 1 {
-            line = line.byte(b' ').decimal(borders[j] as usize);
-        }
-        line
     }
 
     // The borders, noise borders and mark of a time grid behind the text.
-    fn times(self, time: TimeGrid) -> Self
-        requires { ShortTimes (times_of time) }
-        ensures { result ≡ with_text self (times_text (times_of time)) }
+    fn times(self, time: &TimeGrid) -> Self
+        requires { ShortTimes (times_of time.now) }
+        ensures { result.bytes.items ≡ with_text self.bytes.items (times_text (times_of time.now)) }
     {
-        let borders = time.t_e;
-        let last = time.num_env;
-        let line = self.borders(&borders, last).bytes(b" / ");
-        let noise = time.t_q;
-        let last_noise = time.num_noise;
-        line.borders(&noise, last_noise)
-            .bytes(b" / ")
-            .signed(time.l_a)
+        self.numbers(time.borders())
+            .text(b" / ")
+            .numbers(time.noise_borders())
+            .text(b" / ")
+            .number(time.l_a)
     }
 
-    // A letter for each of the first resolutions behind the text.
-    fn resolutions(self, high: &[bool], count: usize) -> Self
-        requires { count ≤ length high.now }
-        ensures { result ≡ with_text self (map resolution (first false count high.now)) }
+    // The end of the line behind the text.
+    fn end(self) -> Self
+        ensures { result.bytes.items ≡ with_text self.bytes.items (10 ∷ []) }
+    {
+        self.text(b"\n")
+    }
+
+    // A letter for each resolution behind the text.
+    #[tactic(auto, using(crate::proofs::Lines::letter_next, crate::proofs::Lines::letters_done))]
+    fn letters(self, high: &[bool]) -> Self
+        ensures { result.bytes.items ≡ with_text self.bytes.items (map resolution high.now) }
     {
         let mut line = self;
-        for j in 0..count {
-            line = line.byte(letter(high[j]));
+        for high in high {
+            line = line.text(letter(*high));
         }
         line
     }
-
-    // The resolutions of a grid behind the text.
-    fn flags(self, grid: SbrGrid) -> Self
-        requires { grid.num_env ≤ 5 }
-        ensures { result ≡ with_text self (map resolution (view_of grid).freq_res) }
-    {
-        let high = grid.freq_res;
-        let count = grid.num_env;
-        self.resolutions(&high, count)
-    }
 }
 
-// The name of a class.
-fn name(class: FrameClass) -> [u8; 6]
-    ensures { result ≡ class_name class }
+// The name of a class. No contract says what `FrameClass`'s `Display` writes.
+fn name(class: FrameClass) -> &'static [u8; 6]
+    ensures { result.now ≡ class_name class }
 {
     match class {
-        FrameClass::FixFix => *b"FixFix",
-        FrameClass::FixVar => *b"FixVar",
-        FrameClass::VarFix => *b"VarFix",
-        FrameClass::VarVar => *b"VarVar",
+        FrameClass::FixFix => b"FixFix",
+        FrameClass::FixVar => b"FixVar",
+        FrameClass::VarFix => b"VarFix",
+        FrameClass::VarVar => b"VarVar",
     }
-}
-
-// A number without its sign.
-fn magnitude(n: i32) -> usize
-    requires { mag n < 100 }
-    ensures { result ≡ nat_abs n }
-{
-    if n < 0 {
-        return (-n) as usize;
-    }
-    n as usize
 }
 
 // H for high resolution, L for low.
-fn letter(high: bool) -> u8
-    ensures { result ≡ resolution high }
+fn letter(high: bool) -> &'static [u8; 1]
+    ensures { result.now ≡ resolution high ∷ [] }
 {
-    if high { b'H' } else { b'L' }
+    if high { b"H" } else { b"L" }
 }
 
 // The line of frame number i: its class, borders, noise borders, mark and resolutions.
-pub fn frame_line(i: usize, grid: SbrGrid, time: TimeGrid) -> Line
-    requires { Short i (shown_of grid time) }
-    ensures { result ≡ line_of (frame_line i (shown_of grid time)) }
+pub fn frame_line(i: usize, grid: &SbrGrid, time: &TimeGrid) -> Line
+    requires { Short i (shown_of grid.now time.now) }
+    ensures { result.bytes.items ≡ frame_line i (shown_of grid.now time.now) }
 {
-    let class = grid.frame_class;
-    let head = Line::new().decimal(i).byte(b' ').class(class).byte(b' ');
-    head.times(time).bytes(b" / ").flags(grid).byte(b'\n')
+    Line::new()
+        .number(i)
+        .text(b" ")
+        .text(name(grid.frame_class))
+        .text(b" ")
+        .times(time)
+        .text(b" / ")
+        .letters(grid.resolutions())
+        .end()
 }
 
 // The line of a frame that is refused.
 pub fn refusal_line(i: usize, why: Refusal) -> Line
     requires { i < 1000 }
-    ensures { result ≡ line_of (refusal_line i why) }
+    ensures { result.bytes.items ≡ refusal_line i why }
 {
     Line::new()
-        .decimal(i)
-        .bytes(b" refused ")
-        .decimal(why.number() as usize)
-        .byte(b'\n')
+        .number(i)
+        .text(b" refused ")
+        .number(u32::from(why))
+        .end()
 }

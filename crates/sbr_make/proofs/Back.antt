@@ -1,4 +1,5 @@
 -- The claims of specs/Back.antt: a stream that is made is read as its lines, and a list of grids such as are chosen is given back.
+use Rattle.std.specs.Prelude.{Ok}
 use mathlib.Core.Path.{◌≡◌, refl, sym, ap, ◌∙◌, subst}
 use mathlib.Core.Bool.{true, false}
 use mathlib.Core.List.{List, ◌∷◌, ◌++◌}
@@ -10,7 +11,6 @@ use lib.IntN.{pos}
 use lib.ListN.{length, get_or}
 use lib.Seq.{append_snoc}
 use Rattle.bits.specs.Room.{Holds}
-use Rattle.sbr_grid.specs.Refusals.{answered}
 use Rattle.sbr_grid.specs.Times.{is_slot_count}
 use Rattle.sbr_grid.proofs.Slots.{slot_range}
 use Rattle.sbr_reader.specs.Read.{starting}
@@ -22,7 +22,7 @@ use Rattle.sbr_make.specs.Back.{frame_lines, IsRead, MadeIsRead, SaysSlots, Give
 use Rattle.sbr_make.proofs.Links.{Links, line_bits, read_lines}
 use Rattle.sbr_make.proofs.Carries.{with_slots, said, Carries, carries}
 use Rattle.sbr_make.proofs.Plain.{first-line, plain_decimal}
-use Rattle.sbr_make.proofs.Reached.{made-on}
+use Rattle.sbr_make.proofs.Firsts.{made-on}
 use Rattle.sbr_make.proofs.Printed.{Lists, printed-short, all-added, listed-again}
 
 -- every stream that is made is read as its lines
@@ -42,7 +42,7 @@ made_is_read text s e =
 -- ---- a list that is given back
 
 -- what a line with a slot count adds before the first frame
-slots_said_lem : (n : ℕ) → is_slot_count n ≡ true → add_line no_frames (read_line (decimal n)) ≡ answered (with_slots no_frames n)
+slots_said_lem : (n : ℕ) → is_slot_count n ≡ true → add_line no_frames (read_line (decimal n)) ≡ Ok (with_slots no_frames n)
 unfolding add_line kind_of read_line read_bytes read_byte decimal is_slot_count
 slots_said_lem n h = elim (ℕ_discrete n 15) [
   | yes e ↦ rw e

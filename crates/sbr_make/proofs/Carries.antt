@@ -1,4 +1,5 @@
 -- What lines that were all added have made: the frames that they name, of which the bytes hold the bits.
+use Rattle.std.specs.Prelude.{Ok, Err}
 use mathlib.Core.Path.{◌≡◌, refl, sym, ap, ◌∙◌, subst}
 use mathlib.Core.Bool.{Bool, true, ◌||◌}
 use mathlib.Core.List.{List, [], ◌∷◌}
@@ -14,19 +15,19 @@ use Rattle.bits.specs.Bits.{put_bits}
 use Rattle.bits.specs.Room.{Holds}
 use Rattle.bits.proofs.Put.{put_append}
 use Rattle.bits.proofs.After.{length-put_bits}
-use Rattle.sbr_grid.specs.Refusals.{Outcome, answered, refused}
+use Rattle.sbr_grid.specs.Refusals.{Outcome}
 use Rattle.sbr_grid.specs.Grid.{Grid}
 use Rattle.sbr_grid.specs.Times.{is_slot_count, is_number}
 use Rattle.sbr_grid.proofs.Number.{number_is, number_so}
 use Rattle.sbr_grid.proofs.Outcomes.{unless_answered}
 use Rattle.sbr_writer.specs.Syntax.{grid_bits}
-use Rattle.sbr_writer.specs.Write.{every}
+use Rattle.std.specs.List.{list_all}
 use Rattle.sbr_named.specs.Shapes.{named_grid}
 use Rattle.sbr_named.proofs.Chosen.{named_is_first}
 use Rattle.sbr_text.specs.declared.Kind.{Kind}
 use Rattle.sbr_text.specs.declared.Kind.TheVariants.{Blank, Slots, Frame, Unreadable}
 use Rattle.sbr_text.specs.Parts.{LineParts, read_line, kind_of}
-use Rattle.sbr_make.specs.Making.{Making, most_bytes, no_frames, add_chosen, add_by_kind, add_line, TextOutcome, complete, stream_of, or_stopped, most_text, made_from}
+use Rattle.sbr_make.specs.Making.{Making, most_bytes, no_frames, add_chosen, add_by_kind, add_line, TextOutcome, stream_of, or_stopped, most_text, made_from}
 use Rattle.sbr_make.specs.Back.{if_frame, frame_lines, slots_after, slots_said, is_readable}
 use Rattle.sbr_make.proofs.Rooms.{more}
 use Rattle.sbr_make.proofs.Holds.{put_holds}
@@ -49,23 +50,23 @@ chained m s = eqb m.count 0 || is_number (get_or s.borders 0 (pos 0)) m.next
 -- a line that added a frame
 record Adds (m : Making) (s : LineParts) (a : Making) : Type 0 where
   grid : Grid
-  chosen : named_grid m.slots s.borders s.flags s.mark ≡ answered grid
+  chosen : named_grid m.slots s.borders s.flags s.mark ≡ Ok grid
   chain : chained m s ≡ true
   room : m.count < 255
   is : added m s grid ≡ a
 
 -- what it added, by the choice
 adds : (m a : Making) (s : LineParts) (o : Outcome Grid) → named_grid m.slots s.borders s.flags s.mark ≡ o
-    → add_chosen m s.borders o ≡ answered a → Adds m s a
-adds m a s (refused e) c h = let z : ◌≡◌ {A = ℕ} 0 1 = cc in absurd (omega arith)
-adds m a s (answered g) c h =
+    → add_chosen m s.borders o ≡ Ok a → Adds m s a
+adds m a s (Err e) c h = let z : ◌≡◌ {A = ℕ} 0 1 = cc in absurd (omega arith)
+adds m a s (Ok g) c h =
     let x = unless_answered (chained m s) _ _ h in
     let y = unless_answered (ltb m.count 255) _ _ x.1 in
     record { grid = g; chosen = c; chain = x.0; room = ltb-true m.count 255 y.0; is = cc y.1 }
 
 -- a line that names a frame for which g is chosen adds it
-pub adds_frame : (m : Making) (s : LineParts) (g : Grid) → kind_of s ≡ Frame → named_grid m.slots s.borders s.flags s.mark ≡ answered g
-    → (0 < m.count → get_or s.borders 0 (pos 0) ≡ pos m.next) → m.count < 255 → add_line m s ≡ answered (added m s g)
+pub adds_frame : (m : Making) (s : LineParts) (g : Grid) → kind_of s ≡ Frame → named_grid m.slots s.borders s.flags s.mark ≡ Ok g
+    → (0 < m.count → get_or s.borders 0 (pos 0) ≡ pos m.next) → m.count < 255 → add_line m s ≡ Ok (added m s g)
 unfolding add_line
 adds_frame m s g k c e h =
     let t : chained m s ≡ true = elim (ℕ_discrete m.count 0) [
@@ -125,13 +126,13 @@ slots-first m n ss s e d = record {
 }
 
 -- a first line that names a frame
-frame_first : (m : Making) (p : LineParts) (ss : List LineParts) (s : List ℕ) (g : Grid) → named_grid m.slots p.borders p.flags p.mark ≡ answered g
+frame_first : (m : Making) (p : LineParts) (ss : List LineParts) (s : List ℕ) (g : Grid) → named_grid m.slots p.borders p.flags p.mark ≡ Ok g
     → chained m p ≡ true → Makes (added m p g) ss s → Makes m (p ∷ ss) s
 frame_first m p ss s g c t d =
     let z = get_or p.borders 0 (pos 0) in
     let k = d.kept (omega arith) in
     let n = d.slots in
-    let chosen : named_grid n p.borders p.flags p.mark ≡ answered g = rw k.0 c in
+    let chosen : named_grid n p.borders p.flags p.mark ≡ Ok g = rw k.0 c in
     let has = (named_is_first n p.borders p.flags p.mark g chosen).has in
     let whole = named_border has.time.t_e p.borders 0 has.same_borders in
     let bits = first_bits n p ss g chosen in
@@ -155,7 +156,7 @@ frame_first m p ss s g c t d =
     }
 
 -- a first line, by its kind
-line_first : (m a : Making) (p : LineParts) (k : Kind) (ss : List LineParts) (s : List ℕ) → m.count ≤ 255 → add_by_kind m p k ≡ answered a
+line_first : (m a : Making) (p : LineParts) (k : Kind) (ss : List LineParts) (s : List ℕ) → m.count ≤ 255 → add_by_kind m p k ≡ Ok a
     → (a.count ≤ 255 → Makes a ss s) → Makes m (if_frame p k ss) s
 line_first m a p Blank ss s h e f = let z : m ≡ a = cc in subst (λ x. Makes x ss s) (sym z) (f (rw z at h))
 line_first m a p (Slots n) ss s h e f =
@@ -169,21 +170,21 @@ line_first m a p Frame ss s h e f =
 line_first m a p Unreadable ss s h e f = let z : ◌≡◌ {A = ℕ} 0 1 = cc in absurd (omega arith)
 
 -- the next law, by what the first line comes to
-not_stopped : (i : ℕ) (next : Making → TextOutcome) (o : Outcome Making) (s : List ℕ) → or_stopped i next o ≡ complete s
-    → (a : Making) × (o ≡ answered a) × (next a ≡ complete s)
-not_stopped i next (answered a) s e = (a, refl, e)
-not_stopped i next (refused x) s e = let z : ◌≡◌ {A = ℕ} 0 1 = cc in absurd (omega arith)
+not_stopped : (i : ℕ) (next : Making → TextOutcome) (o : Outcome Making) (s : List ℕ) → or_stopped i next o ≡ Ok s
+    → (a : Making) × (o ≡ Ok a) × (next a ≡ Ok s)
+not_stopped i next (Ok a) s e = (a, refl, e)
+not_stopped i next (Err x) s e = let z : ◌≡◌ {A = ℕ} 0 1 = cc in absurd (omega arith)
 
 -- of lines that make a stream the first one is added, and the others to what it leaves
-went_on : (i at : ℕ) (m : Making) (l : List ℕ) (ls : List (List ℕ)) (s : List ℕ) → made_from i at m (l ∷ ls) ≡ complete s
-    → (a : Making) × (add_line m (read_line l) ≡ answered a) × (made_from (suc i) (at + length l + 1) a ls ≡ complete s)
+went_on : (i at : ℕ) (m : Making) (l : List ℕ) (ls : List (List ℕ)) (s : List ℕ) → made_from i at m (l ∷ ls) ≡ Ok s
+    → (a : Making) × (add_line m (read_line l) ≡ Ok a) × (made_from (suc i) (at + length l + 1) a ls ≡ Ok s)
 unfolding made_from
 went_on i at m l ls s e =
     let x = not_stopped (suc i) (λ a. made_from (suc i) (at + length l + 1) a ls) _ s e in
     (x.0, (unless_answered (leb (at + length l) most_text) _ _ x.1).1, x.2)
 
 -- what lines make of which none is refused
-makes : (i at : ℕ) (m : Making) (ls : List (List ℕ)) (s : List ℕ) → m.count ≤ 255 → made_from i at m ls ≡ complete s → Makes m (frame_lines ls) s
+makes : (i at : ℕ) (m : Making) (ls : List (List ℕ)) (s : List ℕ) → m.count ≤ 255 → made_from i at m ls ≡ Ok s → Makes m (frame_lines ls) s
 unfolding made_from frame_lines add_line
 makes i at m [] s h e = let z : stream_of m ≡ s = cc in subst (λ t. Makes m [] t) z (none_left m h)
 makes i at m (l ∷ ls) s h e =
@@ -196,7 +197,7 @@ record Says (n : ℕ) (k : Kind) (a : Making) : Type 0 where
   taken : is_slot_count a.slots ≡ true
   readable : is_readable k ≡ true
 
-line_says : (m a : Making) (p : LineParts) (k : Kind) → is_slot_count m.slots ≡ true → add_by_kind m p k ≡ answered a → Says m.slots k a
+line_says : (m a : Making) (p : LineParts) (k : Kind) → is_slot_count m.slots ≡ true → add_by_kind m p k ≡ Ok a → Says m.slots k a
 line_says m a p Blank h e = let z : m ≡ a = cc in subst (Says m.slots Blank) z (record { slots = refl; taken = h; readable = refl })
 line_says m a p (Slots n) h e =
     let x = unless_answered (eqb m.count 0) _ _ e in
@@ -212,10 +213,10 @@ line_says m a p Unreadable h e = let z : ◌≡◌ {A = ℕ} 0 1 = cc in absurd 
 pub record Said (n : ℕ) (ls : List (List ℕ)) (s : List ℕ) : Type 0 where
   pub slots : get_or s 0 0 ≡ slots_said n ls
   pub taken : is_slot_count (get_or s 0 0) ≡ true
-  pub readable : every (λ l. is_readable (kind_of (read_line l))) ls ≡ true
+  pub readable : list_all (λ l. is_readable (kind_of (read_line l))) ls ≡ true
 
-pub said : (i at : ℕ) (m : Making) (ls : List (List ℕ)) (s : List ℕ) → is_slot_count m.slots ≡ true → made_from i at m ls ≡ complete s → Said m.slots ls s
-unfolding made_from slots_said add_line every
+pub said : (i at : ℕ) (m : Making) (ls : List (List ℕ)) (s : List ℕ) → is_slot_count m.slots ≡ true → made_from i at m ls ≡ Ok s → Said m.slots ls s
+unfolding made_from slots_said add_line
 said i at m [] s h e = let z : stream_of m ≡ s = cc in subst (Said m.slots []) z (record { slots = refl; taken = h; readable = refl })
 said i at m (l ∷ ls) s h e =
     let x = went_on i at m l ls s e in
@@ -237,7 +238,7 @@ pub record Carries (ss : List LineParts) (s : List ℕ) : Type 0 where
   pub is : s ≡ slots ∷ (first + slots) ∷ length ss ∷ bytes
 
 -- a stream that is made carries the frames of its lines
-pub carries : (i at n : ℕ) (ls : List (List ℕ)) (s : List ℕ) → made_from i at (with_slots no_frames n) ls ≡ complete s → Carries (frame_lines ls) s
+pub carries : (i at n : ℕ) (ls : List (List ℕ)) (s : List ℕ) → made_from i at (with_slots no_frames n) ls ≡ Ok s → Carries (frame_lines ls) s
 carries i at n ls s e =
     let d = makes i at (with_slots no_frames n) ls s (omega arith) e in
     let ss = frame_lines ls in

@@ -1,4 +1,5 @@
 -- The claim of specs/Enough.antt: what stands behind the longest text and one byte more changes nothing.
+use Rattle.std.specs.Prelude.{Ok, Err}
 use mathlib.Core.Path.{◌≡◌, refl, sym, ap, ◌∙◌}
 use mathlib.Core.Bool.{and-eq-true_iff}
 use mathlib.Core.List.{List, [], ◌∷◌, ◌++◌}
@@ -11,25 +12,23 @@ use lib.Dec.{leb, eqb}
 use lib.ListN.{length, take, drop, length-append, take-append-drop}
 use lib.Seq.{take_all, take-append-le, take-append-add, length-take-le}
 use Rattle.sbr_grid.specs.declared.Refusal.TheVariants.{Room}
-use Rattle.sbr_grid.specs.Refusals.{Outcome, answered, refused, unless}
-use Rattle.sbr_writer.specs.Write.{every}
+use Rattle.sbr_grid.specs.Refusals.{Outcome, unless}
 use Rattle.sbr_text.specs.Parts.{read_line}
 use Rattle.sbr_make.specs.Making.{lines_of, Making, no_frames, add_line, TextOutcome, or_stopped, most_text, made_from, text_stream}
 use Rattle.sbr_make.specs.Enough.{EnoughText}
 use Rattle.sbr_make.proofs.Plain.{Plain, is_false, first-line}
-use Rattle.sbr_make.proofs.Reached.{made-long}
+use Rattle.sbr_make.proofs.Firsts.{made-long}
 
 -- ---- texts with no line feed, and the first line of others
 
 -- a text with no line feed is one line
 one_line : (l : List ℕ) → Plain l → lines_of l ≡ l ∷ []
-unfolding lines_of every
+unfolding lines_of
 one_line [] h = refl
 one_line (b ∷ l) h = let p = simp and-eq-true_iff at h in rw (is_false (eqb b 10) p.0, one_line l p.1)
 
 -- the front of such a text is one
 plain_front : (a b : List ℕ) → Plain (a ++ b) → Plain a
-unfolding every
 plain_front [] b h = refl
 plain_front (x ∷ a) b h = let p = simp and-eq-true_iff at h in rw p.0 (plain_front a b p.1)
 
@@ -45,14 +44,12 @@ record Broken (l : List ℕ) : Type 0 where
 
 -- a byte in front of it
 in_front_lem : (b : ℕ) (l : List ℕ) → (b ≡ 10 → ⊥) → Plain l ⊎ Broken l → Plain (b ∷ l) ⊎ Broken (b ∷ l)
-unfolding every
 in_front_lem b l n (inl h) = inl (rw (ne_eqb b 10 n) h)
 in_front_lem b l n (inr r) =
     inr (record { first = b ∷ r.first; rest = r.rest; is = ap (λ t. b ∷ t) r.is; plain = rw (ne_eqb b 10 n) r.plain })
 
 -- every text is of one kind or the other
 plain_or_broken : (l : List ℕ) → Plain l ⊎ Broken l
-unfolding every
 plain_or_broken [] = inl refl
 plain_or_broken (b ∷ l) = elim (ℕ_discrete b 10) [
   | yes e ↦ inr (record { first = []; rest = l; is = rw e; plain = refl })
@@ -63,8 +60,8 @@ plain_or_broken (b ∷ l) = elim (ℕ_discrete b 10) [
 
 -- what follows a line counts only where it is added
 next_alike : (i : ℕ) (f g : Making → TextOutcome) (o : Outcome Making) → ((a : Making) → f a ≡ g a) → or_stopped i f o ≡ or_stopped i g o
-next_alike i f g (answered a) h = h a
-next_alike i f g (refused e) h = refl
+next_alike i f g (Ok a) h = h a
+next_alike i f g (Err e) h = refl
 
 -- a first line in front of lines that make the same, whatever it adds
 first_alike : (i at : ℕ) (m : Making) (l : List ℕ) (ks ls : List (List ℕ))

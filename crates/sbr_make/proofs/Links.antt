@@ -1,4 +1,5 @@
 -- Frames that lines name, one behind the other, and what bytes that hold their bits are read as.
+use Rattle.std.specs.Prelude.{Ok}
 use mathlib.Core.Path.{◌≡◌, sym, ap, ◌∙◌}
 use mathlib.Core.Bool.{Bool}
 use mathlib.Core.List.{List, [], ◌∷◌, ◌++◌, map, append_assoc}
@@ -8,7 +9,7 @@ use lib.IntN.{ℤ, pos, nat_abs}
 use lib.ListN.{length, get_or, length-append, length-map, get_or-map}
 use Rattle.bits.specs.Room.{Holds}
 use Rattle.bits.proofs.Held.{holds_past}
-use Rattle.sbr_grid.specs.Refusals.{answered, value_or}
+use Rattle.sbr_grid.specs.Refusals.{value_or}
 use Rattle.sbr_grid.specs.Grid.{Grid, num_env_of}
 use Rattle.sbr_grid.specs.Times.{Times}
 use Rattle.sbr_time_grid.specs.TimeGrid.{time_grid}
@@ -25,7 +26,7 @@ use Rattle.sbr_make.specs.Back.{ReadLines}
 -- the grid that is chosen for a line, whose frame begins at b
 pub record Link (n b : ℕ) (s : LineParts) : Type 0 where
   pub grid : Grid
-  pub chosen : named_grid n s.borders s.flags s.mark ≡ answered grid
+  pub chosen : named_grid n s.borders s.flags s.mark ≡ Ok grid
   pub begins : get_or s.borders 0 (pos 0) ≡ pos b
 
 -- where the frame behind that of a line begins
@@ -43,7 +44,7 @@ line_bits n [] = []
 line_bits n (s ∷ ss) = value_or grid_bits [] (named_grid n s.borders s.flags s.mark) ++ line_bits n ss
 
 -- those of the first are its grid's
-pub first_bits : (n : ℕ) (s : LineParts) (ss : List LineParts) (g : Grid) → named_grid n s.borders s.flags s.mark ≡ answered g
+pub first_bits : (n : ℕ) (s : LineParts) (ss : List LineParts) (g : Grid) → named_grid n s.borders s.flags s.mark ≡ Ok g
     → line_bits n (s ∷ ss) ≡ grid_bits g ++ line_bits n ss
 unfolding line_bits
 first_bits n s ss g e = rw e
@@ -64,7 +65,7 @@ pub named_border : (t : List ℕ) (bs : List ℤ) (i : ℕ) → map pos t ≡ bs
 named_border t bs i e = rw (← e) (get_or-map pos t i 0)
 
 -- where the next frame begins, by the last border
-pub next_is : (n : ℕ) (g : Grid) (t : Times) (s : LineParts) → time_grid n g ≡ answered t → map pos t.t_e ≡ s.borders
+pub next_is : (n : ℕ) (g : Grid) (t : Times) (s : LineParts) → time_grid n g ≡ Ok t → map pos t.t_e ≡ s.borders
     → get_or t.t_e (num_env_of g) 0 ≡ next_start n s + n
 next_is n g t s e b =
     let z = time_ends n g t e in
@@ -76,11 +77,11 @@ next_is n g t s e b =
 -- what stands at the first line's bits is read as its frame
 pub record Read (n b : ℕ) (s : LineParts) (ss : List LineParts) (g : Grid) (l : List ℕ) (p : ℕ) (a : Bool) : Type 0 where
   pub time : Times
-  pub derived : time_grid n g ≡ answered time
+  pub derived : time_grid n g ≡ Ok time
   pub borders : map pos time.t_e ≡ s.borders
   pub flags : g.freq_res ≡ s.flags
   pub mark : time.l_a ≡ s.mark
-  pub read : read_grid l p n (carrying (b + n) a) ≡ answered (frame_of a g (p + length (grid_bits g)) time)
+  pub read : read_grid l p n (carrying (b + n) a) ≡ Ok (frame_of a g (p + length (grid_bits g)) time)
   pub border : get_or time.t_e (num_env_of g) 0 ≡ next_start n s + n
   pub rest : Holds l (p + length (grid_bits g)) (line_bits n ss)
 

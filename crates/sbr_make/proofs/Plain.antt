@@ -11,7 +11,7 @@ use lib.IntN.{ℤ, pos, negsuc}
 use lib.Seq.{append_snoc}
 use Rattle.sbr_grid.specs.declared.FrameClass.{FrameClass}
 use Rattle.sbr_grid.specs.declared.FrameClass.TheVariants.{FixFix, FixVar, VarFix, VarVar}
-use Rattle.sbr_writer.specs.Write.{every}
+use Rattle.std.specs.List.{list_all}
 use Rattle.sbr_reader.specs.Read.{Accepted}
 use Rattle.sbr_list.specs.Listing.{decimal, signed, spaced, class_name, resolution, frame_line}
 use Rattle.sbr_list.proofs.Lines.{decimal_one, decimal_two, decimal_three}
@@ -20,7 +20,7 @@ use Rattle.sbr_make.specs.Making.{lines_of}
 
 -- no byte is a line feed
 abbrev pub Plain : List ℕ → Type 0
-Plain l = every (λ b. not (eqb b 10)) l ≡ true
+Plain l = list_all (λ b. not (eqb b 10)) l ≡ true
 
 -- what is not so is otherwise
 pub is_false : (b : Bool) → not b ≡ true → b ≡ false
@@ -29,19 +29,17 @@ is_false false h = refl
 
 -- such bytes before a line feed are the first line
 pub first-line : (l r : List ℕ) → Plain l → lines_of (l ++ (10 ∷ r)) ≡ l ∷ lines_of r
-unfolding lines_of every
+unfolding lines_of
 first-line [] r h = refl
 first-line (b ∷ l) r h = let p = simp and-eq-true_iff at h in rw (is_false (eqb b 10) p.0, first-line l r p.1)
 
 -- two such texts
 plain_both : (a b : List ℕ) → Plain a → Plain b → Plain (a ++ b)
-unfolding every
 plain_both [] b h k = k
 plain_both (x ∷ a) b h k = let p = simp and-eq-true_iff at h in rw p.0 (plain_both a b p.1 k)
 
 -- a number
 pub plain_decimal : (n : ℕ) → Plain (decimal n)
-unfolding every
 plain_decimal n = elim (dec_lt n 10) [
   | yes h ↦ rw (decimal_one n h, digit n)
   | no h ↦ elim (dec_lt n 100) [
@@ -55,20 +53,19 @@ plain_decimal n = elim (dec_lt n 10) [
 
 -- one with its sign
 plain_signed : (z : ℤ) → Plain (signed z)
-unfolding signed every
+unfolding signed
 plain_signed (pos n) = plain_decimal n
 plain_signed (negsuc n) = plain_decimal (suc n)
 
 -- several
 plain_spaced : (l : List ℕ) → Plain (spaced l)
-unfolding spaced every
+unfolding spaced
 plain_spaced [] = refl
 plain_spaced (x ∷ []) = plain_decimal x
 plain_spaced (x ∷ y ∷ l) = plain_both (decimal x) (32 ∷ spaced (y ∷ l)) (plain_decimal x) (plain_spaced (y ∷ l))
 
 -- a class
 plain_class : (c : FrameClass) → Plain (class_name c)
-unfolding every
 plain_class FixFix = refl
 plain_class FixVar = refl
 plain_class VarFix = refl
@@ -76,14 +73,12 @@ plain_class VarVar = refl
 
 -- resolutions
 plain_letters : (l : List Bool) → Plain (map resolution l)
-unfolding every
 plain_letters [] = refl
 plain_letters (true ∷ l) = plain_letters l
 plain_letters (false ∷ l) = plain_letters l
 
 -- a frame's line before its line feed
 plain_shown : (i : ℕ) (f : Accepted) → Plain (shown i f)
-unfolding every
 plain_shown i f =
     plain_both (decimal i) _ (plain_decimal i)
     (plain_both (class_name f.grid.frame_class) _ (plain_class f.grid.frame_class)

@@ -1,4 +1,5 @@
 -- A list that was printed: each of its lines adds its frame, and what is made of it is listed as it is.
+use Rattle.std.specs.Prelude.{Ok}
 use mathlib.Core.Path.{◌≡◌, refl, sym, ap, ◌∙◌, subst}
 use mathlib.Core.Bool.{Bool}
 use mathlib.Core.List.{List, [], ◌∷◌, ◌++◌, map}
@@ -8,7 +9,6 @@ use borrow.Author.Tests.{le-leb}
 use lib.IntN.{pos, nat_abs}
 use lib.ListN.{length, get_or, length-append}
 use Rattle.bits.specs.Room.{Holds}
-use Rattle.sbr_grid.specs.Refusals.{answered}
 use Rattle.sbr_grid.specs.Grid.{Grid}
 use Rattle.sbr_time_grid.specs.TimeGrid.{time_grid}
 use Rattle.sbr_writer.specs.Syntax.{grid_bits}
@@ -24,12 +24,12 @@ use Rattle.sbr_list.proofs.Whole.{length_frame}
 use Rattle.sbr_text.specs.Parts.{LineParts, read_bytes, read_line, kind_of}
 use Rattle.sbr_text.specs.Reads.{Names}
 use Rattle.sbr_text.proofs.Printed.{shown, shown-line, line_reads}
-use Rattle.sbr_make.specs.Making.{lines_of, Making, add_line, complete, stream_of, most_text, made_from}
+use Rattle.sbr_make.specs.Making.{lines_of, Making, add_line, stream_of, most_text, made_from}
 use Rattle.sbr_make.specs.Back.{if_frame, frame_lines, OwnChoice, OwnChoices}
 use Rattle.sbr_make.proofs.Links.{next_start, next_is, named_border, Links, line_bits, front}
 use Rattle.sbr_make.proofs.Carries.{added, adds_frame}
 use Rattle.sbr_make.proofs.Plain.{frame_line_lem}
-use Rattle.sbr_make.proofs.Reached.{made-on}
+use Rattle.sbr_make.proofs.Firsts.{made-on}
 
 -- the same class, resolutions, borders, noise borders and mark make the same line
 same_line : (i : ℕ) (f g : Accepted) → f.grid.frame_class ≡ g.grid.frame_class → f.grid.freq_res ≡ g.grid.freq_res
@@ -45,7 +45,7 @@ Lists n j ss t =
 -- its grid is the one that is chosen for it
 line_chosen : (n : ℕ) (l : List ℕ) (p : ℕ) (c : Carried) (r : OwnChoice n l p c) (s : LineParts)
     → Names s r.frame.time.t_e r.frame.grid.freq_res r.frame.time.l_a
-    → named_grid n s.borders s.flags s.mark ≡ answered r.grid
+    → named_grid n s.borders s.flags s.mark ≡ Ok r.grid
 line_chosen n l p c r s m = rw (m.borders, m.flags, m.marked) r.chosen
 
 -- a line more in front, which names a frame of such a list
@@ -67,18 +67,18 @@ first_listed n j l p c r s ss t names again x b q a y z =
 
 module _ (n : ℕ) (l : List ℕ) where
   -- the list of frames of which the first is read
-  printed : (k j p : ℕ) (c : Carried) (f : Accepted) → read_grid l p n c ≡ answered f
+  printed : (k j p : ℕ) (c : Carried) (f : Accepted) → read_grid l p n c ≡ Ok f
       → lines_from l n (suc k) j p c ≡ frame_line j f ++ lines_from l n k (j + 1) f.position (carrying f.border f.ends_on_attack)
   unfolding lines_from
   printed k j p c f e = rw e
 
   -- its lines
-  lines-printed : (k j p : ℕ) (c : Carried) (f : Accepted) → read_grid l p n c ≡ answered f
+  lines-printed : (k j p : ℕ) (c : Carried) (f : Accepted) → read_grid l p n c ≡ Ok f
       → lines_of (lines_from l n (suc k) j p c) ≡ shown j f ∷ lines_of (lines_from l n k (j + 1) f.position (carrying f.border f.ends_on_attack))
   lines-printed k j p c f e = ap lines_of (printed k j p c f e) ∙ frame_line_lem j f _
 
   -- what the line of a frame that was read names
-  line-names : (j p : ℕ) (c : Carried) (f : Accepted) → read_grid l p n c ≡ answered f → j < 1000
+  line-names : (j p : ℕ) (c : Carried) (f : Accepted) → read_grid l p n c ≡ Ok f → j < 1000
       → Names (read_line (shown j f)) f.time.t_e f.grid.freq_res f.time.l_a
   line-names j p c f e h = line_reads.long j f (shown j f) (frame_shows l p n c f j e h).short (sym (shown-line j f))
 
@@ -100,7 +100,7 @@ module _ (n : ℕ) (l : List ℕ) where
   -- each of its lines adds its frame, where the first begins at the border that is due and the text is not too long
   pub all-added : (k i at j p : ℕ) (c : Carried) (m : Making) → m.slots ≡ n → m.count + k ≤ 255 → j + k ≤ 255 → OwnChoices n l k p c
       → (0 < m.count → c.border ≡ pos (m.next + n)) → at + length (lines_from l n k j p c) ≤ most_text
-      → (z : Making) × (made_from i at m (lines_of (lines_from l n k j p c)) ≡ complete (stream_of z)) × (z.slots ≡ n)
+      → (z : Making) × (made_from i at m (lines_of (lines_from l n k j p c)) ≡ Ok (stream_of z)) × (z.slots ≡ n)
   unfolding lines_from lines_of made_from add_line kind_of read_line read_bytes
   all-added zero i at j p c m u a b x e t = (m, rw (le-leb (at + 0) most_text t), u)
   all-added (suc k) i at j p c m u a b x e t =

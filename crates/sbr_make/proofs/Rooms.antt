@@ -1,34 +1,28 @@
 -- Frames that lines make have room.
-use mathlib.Core.Path.{◌≡◌, refl, ◌∙◌}
+use Rattle.std.specs.Prelude.{Ok}
+use mathlib.Core.Path.{◌≡◌, ◌∙◌}
 use mathlib.Core.Bool.{Bool, true, false, cond, ◌||◌}
 use mathlib.Core.List.{List}
 use Prim.Native.Nat.{ℕ, ◌+◌, ◌-◌, ◌*◌, ◌≤◌, ◌<◌}
 use native.Mathlib.Omega.{arith}
-use borrow.Author.Tests.{ltb-true}
-use lib.Dec.{eqb, ltb}
-use lib.IntN.{ℤ, pos, nat_abs}
-use lib.ListN.{length, get_or, length-replicate}
+use borrow.Author.Tests.{lt-ltb}
+use lib.Dec.{eqb}
+use lib.IntN.{pos}
+use lib.ListN.{length, length-replicate}
 use Rattle.bits.specs.Bits.{put_bits}
 use Rattle.bits.proofs.Room.{room_back}
 use Rattle.bits.proofs.After.{length-put_bits, put_leaves}
-use Rattle.sbr_grid.specs.Refusals.{Outcome, answered, refused}
 use Rattle.sbr_grid.specs.Grid.{Grid}
-use Rattle.sbr_grid.specs.Times.{is_slot_count, is_number}
-use Rattle.sbr_grid.proofs.Outcomes.{unless_answered}
+use Rattle.sbr_grid.specs.Times.{is_slot_count}
 use Rattle.sbr_grid.proofs.Slots.{slots_few}
 use Rattle.sbr_time_grid.proofs.Borders.{zeros_at}
 use Rattle.sbr_writer.specs.Syntax.{grid_bits}
 use Rattle.sbr_writer.specs.Write.{writable, write_grid}
 use Rattle.sbr_writer.proofs.Puts.{some_bits}
 use Rattle.sbr_writer.proofs.Writable.{length_grid}
-use Rattle.sbr_named.specs.Shapes.{named_grid}
-use Rattle.sbr_named.proofs.Signed.{border_at}
-use Rattle.sbr_text.specs.declared.Kind.{Kind}
-use Rattle.sbr_text.specs.declared.Kind.TheVariants.{Blank, Slots, Frame, Unreadable}
-use Rattle.sbr_text.specs.Parts.{LineParts, kind_of}
-use Rattle.sbr_make.specs.Making.{Making, no_frames, set_slots, add_chosen, add_by_kind, add_line}
-use Rattle.sbr_make.specs.Code.{InRoom}
-use Rattle.sbr_make.proofs.Named.{choice}
+use Rattle.sbr_make.specs.Making.{Making, no_frames, add_frame}
+use Rattle.sbr_make.specs.declared.Frames.TheInside.{Inside}
+use Rattle.sbr_make.specs.Code.{making_of, InRoom}
 
 -- before the first line there is room
 pub none_room : InRoom no_frames
@@ -37,7 +31,6 @@ none_room = record {
   slots = omega arith;
   position = omega arith;
   begin = omega arith;
-  next = omega arith;
   size = length-replicate {A = ℕ} 829 0;
   clear = λ i h. zeros_at 829 i;
 }
@@ -65,65 +58,46 @@ module _ (m : Making) (r : InRoom m) (g : Grid) (w : writable g ≡ true) (h : m
 
   -- so the writer writes it
   pub wrote : write_grid m.bytes m.position g
-      ≡ answered (record { bytes = put_bits m.bytes m.position (grid_bits g); position = m.position + length (grid_bits g) })
+      ≡ Ok (record { bytes = put_bits m.bytes m.position (grid_bits g); position = m.position + length (grid_bits g) })
   unfolding write_grid
   wrote =
       let t = bits_within in
       rw (w, room_back (length m.bytes) m.position (length (grid_bits g)) (record { within = t; holds = omega (arith, r.size) }))
 
   -- and there is room after it
-  pub more_room : (first last : ℕ) → first ≤ 19 → last ≤ 19 → InRoom (more m first last g)
-  more_room first last a b = record {
+  pub more_room : (first last : ℕ) → first ≤ 19 → InRoom (more m first last g)
+  more_room first last a = record {
     count = omega arith;
     slots = r.slots;
     position = omega (arith, length_grid g w, r.position);
     begin = either_low (eqb m.count 0) first m.begin a r.begin;
-    next = omega arith;
     size = length-put_bits m.bytes m.position (grid_bits g) ∙ r.size;
     clear = λ i k.
         (put_leaves m.bytes m.position (grid_bits g) (some_bits g) bits_within).past i (omega (arith, some_bits g)) ∙ r.clear i (omega arith);
   }
 
+-- what the program holds then is that
+pub more_is : (f s : Inside) (first last : ℕ) (g : Grid) (b n q : ℕ) (l : List ℕ)
+    → s ≡ record { num_time_slots = f.num_time_slots; count = f.count; begin = b; next = f.next; bytes = l; position = q }
+    → b ≡ cond (eqb f.count 0) first f.begin → n ≡ last - s.num_time_slots → q ≡ f.position + length (grid_bits g)
+    → l ≡ put_bits f.bytes f.position (grid_bits g)
+    → making_of (record { num_time_slots = s.num_time_slots; count = s.count + 1; begin = s.begin; next = n; bytes = s.bytes; position = s.position })
+    ≡ more (making_of f) first last g
+more_is f s first last g b n q l z c d e h = rw (d, z, c, e, h)
+
+-- a frame that meets the one before it is added where there is a place left for it
+pub adds : (m : Making) (first last : ℕ) (g : Grid) → (eqb m.count 0 || eqb first m.next) ≡ true → m.count < 255
+    → add_frame m (pos first) (pos last) g ≡ Ok (more m first last g)
+adds m first last g e h = rw (e, lt-ltb m.count 255 h)
+
 -- a slot count leaves room
-slots_room : (m : Making) (n : ℕ) (a : Making) → InRoom m → set_slots m n ≡ answered a → InRoom a
-slots_room m n a r e =
-    let u = unless_answered (eqb m.count 0) _ _ e in
-    let v = unless_answered (is_slot_count n) _ _ u.1 in
-    let b : Making = record { slots = n; count = m.count; begin = m.begin; next = m.next; position = m.position; bytes = m.bytes } in
-    let z : b ≡ a = cc v.1 in
-    let t : InRoom b = record {
-      count = r.count;
-      slots = slots_few n v.0;
-      position = r.position;
-      begin = r.begin;
-      next = r.next;
-      size = r.size;
-      clear = r.clear;
-    } in
-    rw z at t
-
--- so does a frame
-frame_room : (m : Making) (zs : List ℤ) (res : List Bool) (mark : ℤ) (a : Making) (o : Outcome Grid) → InRoom m
-    → named_grid m.slots zs res mark ≡ o → add_chosen m zs o ≡ answered a → InRoom a
-frame_room m zs res mark a (answered g) r e h =
-    let f = choice m.slots zs res mark g e in
-    let u = unless_answered (eqb m.count 0 || is_number (get_or zs 0 (pos 0)) m.next) _ _ h in
-    let v = unless_answered (ltb m.count 255) _ _ u.1 in
-    let k = length zs - 1 in
-    let z : more m (nat_abs (get_or zs 0 (pos 0))) (nat_abs (get_or zs k (pos 0))) g ≡ a = cc v.1 in
-    rw z at
-    (more_room m r g f.fits (ltb-true m.count 255 v.0) (nat_abs (get_or zs 0 (pos 0))) (nat_abs (get_or zs k (pos 0)))
-    (border_at zs 0 f.borders).low (border_at zs k f.borders).low)
-frame_room m zs res mark a (refused x) r e h = let z : ◌≡◌ {A = ℕ} 0 1 = cc in absurd (omega arith)
-
--- so does what a line of any kind adds
-kind_room : (m : Making) (s : LineParts) (k : Kind) (a : Making) → InRoom m → add_by_kind m s k ≡ answered a → InRoom a
-kind_room m s Blank a r e = let z : m ≡ a = cc in rw z at r
-kind_room m s (Slots n) a r e = slots_room m n a r e
-kind_room m s Frame a r e = frame_room m s.borders s.flags s.mark a (named_grid m.slots s.borders s.flags s.mark) r refl e
-kind_room m s Unreadable a r e = let z : ◌≡◌ {A = ℕ} 0 1 = cc in absurd (omega arith)
-
--- so does every line that is added
-pub line_room : (m : Making) (s : LineParts) (a : Making) → InRoom m → add_line m s ≡ answered a → InRoom a
-unfolding add_line
-line_room m s a r e = kind_room m s (kind_of s) a r e
+pub slots_room : (m : Making) (n : ℕ) → InRoom m → is_slot_count n ≡ true
+    → InRoom (record { slots = n; count = m.count; begin = m.begin; next = m.next; position = m.position; bytes = m.bytes })
+slots_room m n r e = record {
+  count = r.count;
+  slots = slots_few n e;
+  position = r.position;
+  begin = r.begin;
+  size = r.size;
+  clear = r.clear;
+}

@@ -8,7 +8,7 @@ use borrow.Author.Tests.{lt-ltb, le-ltb}
 use lib.Dec.{eqb, ltb}
 use lib.IntN.{ℤ, pos, nat_abs}
 use lib.ListN.{length, get_or, length-append}
-use Rattle.sbr_text.specs.Parts.{LineParts, pushed, numbered, signed_of, with_number, closed, is_digit, is_blank, is_flag, is_class_letter, read_byte, read_bytes, no_parts, read_line}
+use Rattle.sbr_text.specs.Parts.{is_borders, is_mark, LineParts, pushed, numbered, signed_of, with_number, closed, is_digit, is_blank, is_flag, is_class_letter, read_byte, read_bytes, no_parts, read_line}
 
 -- no number of a list is more than 1000, with or without its sign
 abbrev pub Near : List ℤ → Type 0
@@ -55,9 +55,9 @@ signed_near true d (suc v) h = h
 bounded_number : (s : LineParts) (z : ℤ) → nat_abs z ≤ 1000 → Bounded s → Bounded (with_number s z)
 bounded_number s z h b = record {
   value = omega arith;
-  borders = either (λ l. length l ≤ 7) (eqb s.part 0) (pushed_few 7 s.borders z b.borders) b.borders;
-  near = either Near (eqb s.part 0) (either Near (ltb (length s.borders) 7) (more_near s.borders z b.near h) b.near) b.near;
-  marked = either (λ m. nat_abs m ≤ 1000) (eqb s.part 2) h b.marked;
+  borders = either (λ l. length l ≤ 7) (is_borders s.part) (pushed_few 7 s.borders z b.borders) b.borders;
+  near = either Near (is_borders s.part) (either Near (ltb (length s.borders) 7) (more_near s.borders z b.near h) b.near) b.near;
+  marked = either (λ m. nat_abs m ≤ 1000) (is_mark s.part) h b.marked;
   flags = b.flags;
 }
 

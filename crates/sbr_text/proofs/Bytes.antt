@@ -1,20 +1,11 @@
 -- Bytes of a line, one by one.
 use mathlib.Core.Path.{◌≡◌, refl}
-use mathlib.Core.Bool.{true}
 use mathlib.Core.List.{List, [], ◌∷◌, ◌++◌}
 use Prim.Native.Nat.{ℕ, ◌+◌, ◌≤◌, ◌<◌}
 use native.Mathlib.Numerals.{add-one}
-use lib.Dec.{T, leb, leb→le}
-use lib.Ieee.Fits.{and_l, and_r}
 use lib.ListN.{length, get_or, drop, drop_of_length-le}
 use lib.Seq.{drop-cons}
-use Rattle.sbr_text.specs.Parts.{LineParts, is_digit, read_byte, read_bytes}
-
--- a digit is a byte from 48 to 57
-pub digit_told : (b : ℕ) → is_digit b ≡ true → (48 ≤ b) × (b ≤ 57)
-digit_told b e =
-    let t : T (is_digit b) = rw e tt in
-    (leb→le 48 b (and_l (leb 48 b) (leb b 57) t), leb→le b 57 (and_r (leb 48 b) (leb b 57) t))
+use Rattle.sbr_text.specs.Parts.{LineParts, read_byte, read_bytes}
 
 -- bytes behind others are read after them
 pub bytes_append : (s : LineParts) (a b : List ℕ) → read_bytes s (a ++ b) ≡ read_bytes (read_bytes s a) b

@@ -1,7 +1,4 @@
-pub mod Places
-pub mod Numbers
 pub mod Signs
-pub mod Handed
 pub mod Bytes
 pub mod Bounds
 pub mod Texts

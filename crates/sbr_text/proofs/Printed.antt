@@ -9,13 +9,14 @@ use lib.Signed.{nat_abs-le}
 use Rattle.sbr_reader.specs.Read.{Accepted}
 use Rattle.sbr_list.specs.Listing.{decimal, signed, spaced, class_name, resolution, stroke, frame_line}
 use Rattle.sbr_list.specs.Line.{Short}
+use Rattle.sbr_text.specs.declared.parts.Part.TheVariants.{Flags}
 use Rattle.sbr_text.specs.Parts.{parts, no_number, no_parts, closed, read_bytes, read_line, kind_of}
 use Rattle.sbr_text.specs.Reads.{named_line, Names, Legible, LineReads}
 use Rattle.sbr_text.proofs.Texts.{piece, signed-read, class_read, borders_read, noise_read, rest_read}
 
 -- a line of which all was read names what it holds
 named : (l : List ℕ) (c : Bool) (bs : List ℕ) (res : List Bool) (mark : ℤ)
-    → read_bytes no_parts l ≡ parts true c 3 no_number (map pos bs) 1 mark res → Names (read_line l) bs res mark
+    → read_bytes no_parts l ≡ parts true c Flags no_number (map pos bs) 1 mark res → Names (read_line l) bs res mark
 unfolding read_line kind_of
 named l c bs res mark e =
     subst (λ s. Names (closed s) bs res mark) (sym e) (record { kind = refl; borders = refl; flags = refl; marked = refl })
@@ -40,7 +41,7 @@ shown-line i f = simp append_assoc
 
 -- it is read as what it shows
 shown_read : (i : ℕ) (f : Accepted) → Short i f
-    → read_bytes no_parts (shown i f) ≡ parts true true 3 no_number (map pos f.time.t_e) 1 f.time.l_a f.grid.freq_res
+    → read_bytes no_parts (shown i f) ≡ parts true true Flags no_number (map pos f.time.t_e) 1 f.time.l_a f.grid.freq_res
 unfolding signed read_bytes
 shown_read i f h =
     let t = f.time in
@@ -48,7 +49,7 @@ shown_read i f h =
     let behind-borders : List ℕ = spaced t.t_q ++ (stroke ++ behind-noise) in
     let behind-class : List ℕ = spaced t.t_e ++ (stroke ++ behind-borders) in
     piece no_parts _ (decimal i) (class_name f.grid.frame_class ++ (32 ∷ behind-class))
-    (signed-read no_parts (omega arith) (pos i) h.number)
+    (signed-read no_parts refl (pos i) h.number)
     ∙ class_read f.grid.frame_class (pos i) behind-class
     ∙ borders_read true t.t_e behind-borders (omega (arith, h.times.borders)) (λ k. omega (arith, h.times.small k))
     ∙ noise_read (map pos t.t_e) t.t_q behind-noise (λ k. omega (arith, h.times.small_noise k))

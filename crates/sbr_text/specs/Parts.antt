@@ -2,14 +2,31 @@
 -- resolutions. Frame number, class and noise borders are read past: the grid is chosen by the rest. A number alone is a slot count. Numbers have blanks
 -- between them; further blanks may stand anywhere but inside a number.
 use Rattle.std.specs.Prelude.{Bool, true, false, cond, not, ◌&&◌, ◌||◌, List, [], ◌∷◌, ◌++◌, ℕ, ◌+◌, ◌-◌, ◌*◌, min, leb, ltb, eqb, ℤ, pos, negsuc, neg_ℤ, length}
+use Rattle.sbr_text.specs.declared.parts.Part.{Part}
+use Rattle.sbr_text.specs.declared.parts.Part.TheVariants.{Borders, Noise, Mark, Flags}
+use Rattle.sbr_text.specs.declared.parts.Number.{Number}
 use Rattle.sbr_text.specs.declared.Kind.{Kind}
 use Rattle.sbr_text.specs.declared.Kind.TheVariants.{Blank, Slots, Frame, Unreadable}
 
--- a number that is being read: its sign, whether it has a digit yet, its value so far
-pub record Number : Type 0 where
-  pub minus : Bool
-  pub digits : Bool
-  pub value : ℕ
+-- a value for each part of a line, by what a number is there: a border, a noise border, the mark; in the last one letters of resolutions follow
+abbrev pub by_part : {A : Type 0} → Part → A → A → A → A → A
+by_part Borders a b c d = a
+by_part Noise a b c d = b
+by_part Mark a b c d = c
+by_part Flags a b c d = d
+
+-- the part in which one is, and whether numbers stand there
+abbrev pub is_borders : Part → Bool
+is_borders p = by_part p true false false false
+
+abbrev pub is_mark : Part → Bool
+is_mark p = by_part p false false true false
+
+abbrev pub is_flags : Part → Bool
+is_flags p = by_part p false false false true
+
+abbrev pub takes_numbers : Part → Bool
+takes_numbers p = not (is_flags p)
 
 -- what stands in a line so far
 pub record LineParts : Type 0 where
@@ -17,8 +34,8 @@ pub record LineParts : Type 0 where
   pub good : Bool
   -- a class was named
   pub class : Bool
-  -- what a number is here: 0 a border, 1 a noise border, 2 the mark; 3: letters of resolutions follow
-  pub part : ℕ
+  pub part : Part
+  -- a number that is being read: its sign, whether it has a digit yet, its value so far
   pub number : Number
   pub borders : List ℤ
   -- how many marks there are, at most 2, and the last one
@@ -27,7 +44,7 @@ pub record LineParts : Type 0 where
   pub flags : List Bool
 
 -- by what they are
-abbrev pub parts : Bool → Bool → ℕ → Number → List ℤ → ℕ → ℤ → List Bool → LineParts
+abbrev pub parts : Bool → Bool → Part → Number → List ℤ → ℕ → ℤ → List Bool → LineParts
 parts good class part number borders marks mark flags = record {
   good = good;
   class = class;
@@ -47,7 +64,7 @@ abbrev pub no_number : Number
 no_number = numbered false false 0
 
 abbrev pub no_parts : LineParts
-no_parts = parts true false 0 no_number [] 0 (pos 0) []
+no_parts = parts true false Borders no_number [] 0 (pos 0) []
 
 -- ---- what a byte adds
 
@@ -61,7 +78,7 @@ grown a d = numbered a.minus true (min (10 * a.value + d) 1000)
 
 abbrev pub with_digit : LineParts → ℕ → LineParts
 with_digit s d =
-    parts (s.good && leb s.part 2) s.class s.part (grown s.number d) s.borders s.marks s.mark s.flags
+    parts (s.good && takes_numbers s.part) s.class s.part (grown s.number d) s.borders s.marks s.mark s.flags
 
 -- whether a number is being read
 abbrev pub is_open : Number → Bool
@@ -70,12 +87,12 @@ is_open a = a.minus || a.digits
 -- a minus sign, before the first digit
 abbrev pub with_minus : LineParts → LineParts
 with_minus s =
-    parts (s.good && (leb s.part 2 && not (is_open s.number))) s.class s.part
+    parts (s.good && (takes_numbers s.part && not (is_open s.number))) s.class s.part
     (numbered true s.number.digits s.number.value) s.borders s.marks s.mark s.flags
 
 -- a letter of a class: one number stands before the first, which was the frame's and no border
 abbrev pub may_name : LineParts → Bool
-may_name s = eqb s.part 0 && (not (is_open s.number) && eqb (length s.borders) (cond s.class 0 1))
+may_name s = is_borders s.part && (not (is_open s.number) && eqb (length s.borders) (cond s.class 0 1))
 
 abbrev pub with_letter : LineParts → LineParts
 with_letter s = parts (s.good && may_name s) true s.part s.number [] s.marks s.mark s.flags
@@ -83,7 +100,7 @@ with_letter s = parts (s.good && may_name s) true s.part s.number [] s.marks s.m
 -- a resolution; of more than six, six are kept, as many as no grid has
 abbrev pub with_flag : LineParts → Bool → LineParts
 with_flag s high =
-    parts (s.good && eqb s.part 3) s.class s.part s.number s.borders s.marks s.mark (pushed 6 s.flags high)
+    parts (s.good && is_flags s.part) s.class s.part s.number s.borders s.marks s.mark (pushed 6 s.flags high)
 
 -- the value of a number
 abbrev pub signed_of : Number → ℤ
@@ -92,12 +109,8 @@ signed_of a = cond a.minus (neg_ℤ (pos a.value)) (pos a.value)
 -- a number at its place: of more than seven borders, seven are kept, as many as no grid has
 abbrev pub with_number : LineParts → ℤ → LineParts
 with_number s z =
-    parts s.good s.class s.part no_number (cond (eqb s.part 0) (pushed 7 s.borders z) s.borders)
-    (cond (eqb s.part 2) (min (s.marks + 1) 2) s.marks) (cond (eqb s.part 2) z s.mark) s.flags
-
--- no number is being read any more
-abbrev pub without_number : LineParts → LineParts
-without_number s = parts s.good s.class s.part no_number s.borders s.marks s.mark s.flags
+    parts s.good s.class s.part no_number (cond (is_borders s.part) (pushed 7 s.borders z) s.borders)
+    (cond (is_mark s.part) (min (s.marks + 1) 2) s.marks) (cond (is_mark s.part) z s.mark) s.flags
 
 -- the end of a number, where one is being read; a minus sign alone is none
 abbrev pub closed : LineParts → LineParts
@@ -106,13 +119,13 @@ closed s =
     (parts (s.good && not s.number.minus) s.class s.part no_number s.borders s.marks s.mark s.flags)
 
 -- the part behind a stroke: noise borders stand only in a line that names a class
-abbrev pub part_after : Bool → ℕ → ℕ
-part_after class part = cond (eqb part 0) (cond class 1 2) (part + 1)
+abbrev pub part_after : Bool → Part → Part
+part_after class p = by_part p (cond class Noise Mark) Mark Flags Flags
 
 -- a stroke: none follows the resolutions, and one mark stands before the last
 abbrev pub stroked : LineParts → LineParts
 stroked s =
-    parts (s.good && (leb s.part 2 && (not (eqb s.part 2) || eqb s.marks 1))) s.class (min (part_after s.class s.part) 3)
+    parts (s.good && (takes_numbers s.part && (not (is_mark s.part) || eqb s.marks 1))) s.class (part_after s.class s.part)
     s.number s.borders s.marks s.mark s.flags
 
 -- blank, tabulator, carriage return
@@ -165,4 +178,4 @@ kind_of_numbers (z ∷ y ∷ zs) = Unreadable
 unfoldable pub kind_of : LineParts → Kind
 kind_of s =
     cond (not s.good) Unreadable
-    (cond (eqb s.part 3) Frame (cond (eqb s.part 0 && not s.class) (kind_of_numbers s.borders) Unreadable))
+    (cond (is_flags s.part) Frame (cond (is_borders s.part && not s.class) (kind_of_numbers s.borders) Unreadable))

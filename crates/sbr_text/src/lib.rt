@@ -2,16 +2,21 @@
 #![tactic(auto)]
 
 ghost use Rattle.std.specs.Prelude.{◌≡◌};
-ghost use Rattle.sbr_text.specs.Parts.{read_line};
-ghost use Rattle.sbr_text.specs.Code.{text_line_of};
+ghost use Rattle.sbr_text.specs.Parts.{read_line, kind_of};
 
+use arrayvec::ArrayVec;
 use parts::Parts;
 use sbr_grid::{SbrGrid, TimeGrid};
 
 mod parts;
 
+// More borders than any grid has, and more resolutions.
+pub const MAX_BORDERS: usize = TimeGrid::MAX_BORDERS + 1;
+
+pub const MAX_FLAGS: usize = SbrGrid::MAX_NUM_ENV + 1;
+
 // What a line is.
-#[derive(Clone, Copy)]
+#[derive(Clone, Copy, Debug, PartialEq, Eq)]
 pub enum Kind {
     // It has nothing but blanks.
     Blank,
@@ -22,31 +27,26 @@ pub enum Kind {
     Unreadable,
 }
 
-// What a line says: its kind, and of a frame its borders, its mark and its resolutions. Places behind a count are 0.
-#[derive(Clone, Copy)]
+// What a line says: its kind, and of a frame its borders, its mark and its resolutions.
+#[derive(Drop)]
 pub struct TextLine {
     pub kind: Kind,
-    pub borders: [i32; TextLine::MAX_BORDERS],
-    pub num_borders: usize,
+    pub borders: ArrayVec<i32, MAX_BORDERS>,
     pub mark: i32,
-    pub flags: [bool; TextLine::MAX_FLAGS],
-    pub num_flags: usize,
-}
-
-impl TextLine {
-    // More borders than any grid has, and more resolutions.
-    pub const MAX_BORDERS: usize = TimeGrid::MAX_BORDERS + 1;
-
-    pub const MAX_FLAGS: usize = SbrGrid::MAX_NUM_ENV + 1;
+    pub flags: ArrayVec<bool, MAX_FLAGS>,
 }
 
 // What a line says.
+#[tactic(auto, using(crate::proofs::Bytes::bytes_next, crate::proofs::Bytes::bytes_done), unfolding(crate::specs::Parts::read_line))]
 pub fn read_line(line: &[u8]) -> TextLine
-    ensures { result ≡ text_line_of (read_line line.now) }
+    ensures kind { result.kind ≡ kind_of (read_line line.now) }
+    ensures borders { result.borders.items ≡ (read_line line.now).borders }
+    ensures mark { result.mark ≡ (read_line line.now).mark }
+    ensures flags { result.flags.items ≡ (read_line line.now).flags }
 {
-    let mut parts = Parts::none();
-    for i in 0..line.len() {
-        parts = parts.byte(line[i]);
+    let mut parts = Parts::new();
+    for byte in line {
+        parts = parts.byte(*byte);
     }
     parts.close().text_line()
 }

@@ -1,364 +1,265 @@
 // A line of text while it is read, byte by byte.
-ghost use Rattle.std.specs.Prelude.{◌≡◌, cond, ◌&&◌, ◌||◌, ◌+◌, ◌*◌, ◌≤◌, min};
-ghost use Rattle.sbr_text.specs.Parts.{no_parts, with_digit, is_open, with_minus, may_name, with_letter, with_flag, signed_of, without_number, with_number, closed, part_after, stroked, is_blank, is_digit, is_flag, is_class_letter, read_byte, slots_of, kind_of_numbers, kind_of};
-ghost use Rattle.sbr_text.specs.Code.{text_line_of, parts_of, with_border, Tidy, SmallNumber, LineIs};
+ghost use Rattle.std.specs.Prelude.{◌≡◌, ◌≤◌, ◌-◌};
+ghost use Rattle.sbr_text.specs.Parts.{grown, is_open, signed_of, pushed, no_parts, with_digit, with_minus, may_name, with_letter, with_flag, with_number, closed, part_after, takes_numbers, stroked, read_byte, slots_of, kind_of};
+ghost use Rattle.sbr_text.specs.Code.{parts_of};
 
-use crate::{Kind, TextLine};
+use crate::{Kind, MAX_BORDERS, MAX_FLAGS, TextLine};
+use arrayvec::ArrayVec;
 
-// What stands in a line so far.
-#[derive(Clone, Copy)]
-pub struct Parts {
-    // Nothing was found that no line has.
-    pub good: bool,
-    // A class was named.
-    pub class: bool,
-    // What a number is here: 0 a border, 1 a noise border, 2 the mark; 3: letters of resolutions follow.
-    pub part: u32,
-    // The number that is being read: its sign, whether it has a digit yet, its value so far.
+// The parts of a line, by what a number is there; in the last one letters of resolutions follow.
+#[derive(Clone, Copy, Debug, PartialEq, Eq)]
+pub enum Part {
+    Borders,
+    Noise,
+    Mark,
+    Flags,
+}
+
+impl Part {
+    // Whether numbers stand there.
+    fn takes_numbers(self) -> bool
+        ensures { result ≡ takes_numbers self }
+    {
+        !matches!(self, Part::Flags)
+    }
+
+    // The part behind a stroke: noise borders stand only in a line that names a class.
+    fn next(self, class: bool) -> Part
+        ensures { result ≡ part_after class self }
+    {
+        match self {
+            Part::Borders if class => Part::Noise,
+            Part::Borders | Part::Noise => Part::Mark,
+            Part::Mark | Part::Flags => Part::Flags,
+        }
+    }
+}
+
+// A number that is being read: its sign, whether it has a digit yet, its value so far.
+#[derive(Clone, Copy, Default)]
+pub struct Number {
     pub minus: bool,
     pub digits: bool,
-    pub value: u32,
-    pub borders: [i32; TextLine::MAX_BORDERS],
-    pub num_borders: usize,
+    pub value: u16,
+}
+
+impl Number {
+    // Numbers from this one on are this one.
+    const MAX: u16 = 1000;
+
+    // With a digit behind the others.
+    fn grown(self, digit: u8) -> Self
+        ensures { result ≡ grown self digit }
+    {
+        let value = self
+            .value
+            .saturating_mul(10)
+            .saturating_add(u16::from(digit));
+        Number {
+            digits: true,
+            value: value.min(Number::MAX),
+            ..self
+        }
+    }
+
+    // Whether it is being read.
+    fn is_open(self) -> bool
+        ensures { result ≡ is_open self }
+    {
+        self.minus || self.digits
+    }
+
+    fn signed(self) -> i32
+        ensures { result ≡ signed_of self }
+    {
+        let value = i32::from(self.value);
+        if self.minus { -value } else { value }
+    }
+}
+
+// What stands in a line so far.
+#[derive(Drop)]
+pub struct Parts {
+    // Nothing was found that no line has.
+    good: bool,
+    // A class was named.
+    class: bool,
+    part: Part,
+    number: Number,
+    borders: ArrayVec<i32, MAX_BORDERS>,
     // How many marks there are, at most 2, and the last one.
-    pub marks: u32,
-    pub mark: i32,
-    pub flags: [bool; TextLine::MAX_FLAGS],
-    pub num_flags: usize,
+    marks: u8,
+    mark: i32,
+    flags: ArrayVec<bool, MAX_FLAGS>,
 }
 
-// Whether both hold.
-fn both(a: bool, b: bool) -> bool
-    ensures { result ≡ (a && b) }
+// An item behind the others; left out where there is no room.
+fn push<T: Drop, const N: usize>(items: &mut ArrayVec<T, N>, item: T)
+    ensures { items.new.items ≡ pushed N items.old.items item }
 {
-    if a { b } else { false }
-}
-
-// Whether one of the two holds.
-fn either(a: bool, b: bool) -> bool
-    ensures { result ≡ (a || b) }
-{
-    if a { true } else { b }
-}
-
-// The value of a number that has one digit more; 1000 where that is more.
-fn grown(value: u32, d: u32) -> u32
-    requires { (value ≤ 1000) × (d ≤ 9) }
-    ensures { result ≡ min (10 * value + d) 1000 }
-{
-    let more = 10 * value + d;
-    if more < Parts::MAX_VALUE {
-        more
-    } else {
-        Parts::MAX_VALUE
+    if items.len() < N {
+        items.push(item);
     }
-}
-
-// One mark more, up to two.
-fn another_mark(marks: u32) -> u32
-    ensures { result ≡ min (marks + 1) 2 }
-{
-    if marks < 1 { 1 } else { 2 }
-}
-
-// The part behind a stroke.
-fn part_after(class: bool, part: u32) -> u32
-    ensures { result ≡ min (part_after class part) 3 }
-{
-    match part {
-        0 => { if class { Parts::NOISE } else { Parts::MARK } }
-        1 => Parts::MARK,
-        _ => Parts::FLAGS,
-    }
-}
-
-// A slot count; a number below 0 is none, as 0 is.
-fn slots(z: i32) -> usize
-    ensures { result ≡ slots_of z }
-{
-    if z < 0 { 0 } else { z as usize }
-}
-
-// A blank, a tabulator or a carriage return.
-fn is_blank(b: u8) -> bool
-    ensures { result ≡ is_blank b }
-{
-    either(either(b == b' ', b == b'\t'), b == b'\r')
-}
-
-fn is_digit(b: u8) -> bool
-    ensures { result ≡ is_digit b }
-{
-    both(b'0' <= b, b <= b'9')
-}
-
-// The letter of a resolution.
-fn is_flag(b: u8) -> bool
-    ensures { result ≡ is_flag b }
-{
-    either(b == b'H', b == b'L')
-}
-
-// A letter of the name of a class.
-fn is_class_letter(b: u8) -> bool
-    ensures { result ≡ is_class_letter b }
-{
-    let fix = either(either(b == b'F', b == b'i'), b == b'x');
-    either(either(either(fix, b == b'V'), b == b'a'), b == b'r')
 }
 
 impl Parts {
-    // Numbers from this one on are this one.
-    const MAX_VALUE: u32 = 1000;
-
-    // The parts of a line behind the borders.
-    const NOISE: u32 = 1;
-
-    const MARK: u32 = 2;
-
-    const FLAGS: u32 = 3;
-
     // Those of a line of which nothing has been read.
-    pub fn none() -> Self
-        ensures { LineIs result no_parts }
+    pub fn new() -> Self
+        ensures { parts_of result ≡ no_parts }
     {
         Parts {
             good: true,
             class: false,
-            part: 0,
-            minus: false,
-            digits: false,
-            value: 0,
-            borders: [0i32; TextLine::MAX_BORDERS],
-            num_borders: 0,
+            part: Part::Borders,
+            number: Number::default(),
+            borders: ArrayVec::new(),
             marks: 0,
             mark: 0,
-            flags: [false; TextLine::MAX_FLAGS],
-            num_flags: 0,
+            flags: ArrayVec::new(),
         }
     }
 
     // A digit behind what stands there.
-    fn digit(mut self, d: u32) -> Self
-        requires { SmallNumber self × (d ≤ 9) }
-        ensures { LineIs result (with_digit (parts_of self) d) }
+    fn digit(mut self, digit: u8) -> Self
+        ensures { parts_of result ≡ with_digit (parts_of self) digit }
     {
-        self.good = both(self.good, self.part <= Parts::MARK);
-        self.digits = true;
-        self.value = grown(self.value, d);
+        self.good = self.good && self.part.takes_numbers();
+        self.number = self.number.grown(digit);
         self
-    }
-
-    // Whether a number is being read.
-    fn is_open(self) -> bool
-        ensures { result ≡ is_open (parts_of self).number }
-    {
-        either(self.minus, self.digits)
     }
 
     // A minus sign behind what stands there.
     fn minus_sign(mut self) -> Self
-        requires { Tidy self }
-        ensures { LineIs result (with_minus (parts_of self)) }
+        ensures { parts_of result ≡ with_minus (parts_of self) }
     {
-        let begins = both(self.part <= Parts::MARK, !self.is_open());
-        self.good = both(self.good, begins);
-        self.minus = true;
+        self.good = self.good && self.part.takes_numbers() && !self.number.is_open();
+        self.number.minus = true;
         self
     }
 
-    // How many numbers stand before a letter of a class: the frame's, before the first.
-    fn before_letter(self) -> usize
-        ensures { result ≡ cond self.class 0 1 }
+    // Whether a letter of a class may stand here: before the first stands the frame's number, before the others none.
+    fn may_name(&self) -> bool
+        ensures { result ≡ may_name (parts_of self.now) }
     {
-        if self.class { 0 } else { 1 }
-    }
-
-    // Whether a letter of a class may stand here.
-    fn may_name(self) -> bool
-        ensures { result ≡ may_name (parts_of self) }
-    {
-        let counted = both(!self.is_open(), self.num_borders == self.before_letter());
-        both(self.part == 0, counted)
+        self.part == Part::Borders
+            && !self.number.is_open()
+            && self.borders.len() == usize::from(!self.class)
     }
 
     // A letter of a class behind what stands there.
     fn class_letter(mut self) -> Self
-        requires { Tidy self }
-        ensures { LineIs result (with_letter (parts_of self)) }
+        ensures { parts_of result ≡ with_letter (parts_of self) }
     {
-        let named = self.may_name();
-        self.good = both(self.good, named);
+        self.good = self.good && self.may_name();
         self.class = true;
-        self.borders = [0i32; TextLine::MAX_BORDERS];
-        self.num_borders = 0;
+        self.borders.clear();
         self
     }
 
-    // A resolution behind what stands there; left out where there is no place for it.
+    // A resolution behind what stands there.
     fn flag(mut self, high: bool) -> Self
-        requires { Tidy self }
-        ensures { LineIs result (with_flag (parts_of self) high) }
+        ensures { parts_of result ≡ with_flag (parts_of self) high }
     {
-        self.good = both(self.good, self.part == Parts::FLAGS);
-        let at = self.num_flags;
-        if at < TextLine::MAX_FLAGS {
-            self.flags[at] = high;
-            self.num_flags = at + 1;
-        }
-        self
-    }
-
-    // The value of the number that is being read.
-    fn signed(self) -> i32
-        requires { self.value ≤ 1000 }
-        ensures { result ≡ signed_of (parts_of self).number }
-    {
-        if self.minus {
-            return -(self.value as i32);
-        }
-        self.value as i32
-    }
-
-    // A border behind the others; left out where there is no place for it.
-    fn border(mut self, z: i32) -> Self
-        requires { Tidy self }
-        ensures { LineIs result (with_border (parts_of self) z) }
-    {
-        let at = self.num_borders;
-        if at < TextLine::MAX_BORDERS {
-            self.borders[at] = z;
-            self.num_borders = at + 1;
-        }
-        self
-    }
-
-    // No number is being read any more.
-    fn without_number(mut self) -> Self
-        requires { Tidy self }
-        ensures { LineIs result (without_number (parts_of self)) }
-    {
-        self.minus = false;
-        self.digits = false;
-        self.value = 0;
+        self.good = self.good && self.part == Part::Flags;
+        push(&mut self.flags, high);
         self
     }
 
     // A number at its place.
-    fn number(self, z: i32) -> Self
-        requires { Tidy self }
-        ensures { LineIs result (with_number (parts_of self) z) }
+    fn number(mut self, z: i32) -> Self
+        ensures { parts_of result ≡ with_number (parts_of self) z }
     {
-        let mut rest = self.without_number();
-        let part = rest.part;
-        match part {
-            0 => rest.border(z),
-            2 => {
-                rest.marks = another_mark(rest.marks);
-                rest.mark = z;
-                rest
+        self.number = Number::default();
+        match self.part {
+            Part::Borders => push(&mut self.borders, z),
+            Part::Mark => {
+                self.marks = self.marks.saturating_add(1).min(2);
+                self.mark = z;
             }
-            _ => rest,
+            Part::Noise | Part::Flags => {}
         }
+        self
     }
 
-    // The end of a number, where one is being read.
+    // The end of a number, where one is being read; a minus sign alone is none.
     pub fn close(mut self) -> Self
-        requires { SmallNumber self }
-        ensures { LineIs result (closed (parts_of self)) }
+        ensures { parts_of result ≡ closed (parts_of self) }
     {
-        if self.digits {
-            return self.number(self.signed());
+        let number = self.number;
+        if number.digits {
+            return self.number(number.signed());
         }
-        self.good = both(self.good, !self.minus);
-        self.without_number()
+        self.good = self.good && !number.minus;
+        self.number = Number::default();
+        self
     }
 
-    // A stroke behind what stands there; no number is being read.
+    // A stroke behind what stands there: none follows the resolutions, and one mark stands before the last.
     fn stroke(mut self) -> Self
-        requires { Tidy self }
-        ensures { LineIs result (stroked (parts_of self)) }
+        ensures { parts_of result ≡ stroked (parts_of self) }
     {
-        let marked = either(self.part != Parts::MARK, self.marks == 1);
-        let follows = both(self.part <= Parts::MARK, marked);
-        self.good = both(self.good, follows);
-        self.part = part_after(self.class, self.part);
+        let marked = self.part != Part::Mark || self.marks == 1;
+        self.good = self.good && self.part.takes_numbers() && marked;
+        self.part = self.part.next(self.class);
         self
     }
 
     // A byte behind what stands there.
-    pub fn byte(mut self, b: u8) -> Self
-        requires { SmallNumber self }
-        ensures { LineIs result (read_byte (parts_of self) b) }
+    #[tactic(auto, unfolding(crate::specs::Parts::read_byte))]
+    pub fn byte(self, b: u8) -> Self
+        ensures { parts_of result ≡ read_byte (parts_of self) b }
     {
-        if is_digit(b) {
-            return self.digit((b - b'0') as u32);
+        match b {
+            b'0'..=b'9' => self.digit(b - b'0'),
+            b' ' | b'\t' | b'\r' => self.close(),
+            b'/' => self.close().stroke(),
+            b'-' => self.minus_sign(),
+            b'H' => self.flag(true),
+            b'L' => self.flag(false),
+            b'F' | b'i' | b'x' | b'V' | b'a' | b'r' => self.class_letter(),
+            _ => Parts {
+                good: false,
+                ..self
+            },
         }
-        if is_blank(b) {
-            return self.close();
-        }
-        if b == b'/' {
-            return self.close().stroke();
-        }
-        if b == b'-' {
-            return self.minus_sign();
-        }
-        if is_flag(b) {
-            return self.flag(b == b'H');
-        }
-        if is_class_letter(b) {
-            return self.class_letter();
-        }
-        self.good = false;
-        self
     }
 
-    // What a line of numbers alone is.
-    fn kind_of_numbers(self) -> Kind
-        ensures { result ≡ kind_of_numbers (parts_of self).borders }
+    // What the line is. A slot count below 0 is none, as 0 is.
+    #[tactic(auto, unfolding(crate::specs::Parts::kind_of))]
+    fn kind(&self) -> Kind
+        ensures { result ≡ kind_of (parts_of self.now) }
     {
-        let count = self.num_borders;
-        match count {
-            0 => Kind::Blank,
-            1 => Kind::Slots(slots(self.borders[0])),
+        match self.part {
+            _ if !self.good => Kind::Unreadable,
+            Part::Flags => Kind::Frame,
+            Part::Borders if !self.class => match self.borders.as_slice() {
+                [] => Kind::Blank,
+                [slots] => Kind::Slots(usize::try_from(*slots).unwrap_or(0)),
+                _ => Kind::Unreadable,
+            },
             _ => Kind::Unreadable,
         }
     }
 
-    // What the line is.
-    fn kind(self) -> Kind
-        ensures { result ≡ kind_of (parts_of self) }
-    {
-        if !self.good {
-            return Kind::Unreadable;
-        }
-        let part = self.part;
-        if part == Parts::FLAGS {
-            return Kind::Frame;
-        }
-        if part != 0 {
-            return Kind::Unreadable;
-        }
-        if self.class {
-            return Kind::Unreadable;
-        }
-        self.kind_of_numbers()
-    }
-
     // What the line says.
     pub fn text_line(self) -> TextLine
-        requires { Tidy self }
-        ensures { result ≡ text_line_of (parts_of self) }
+        ensures kind { result.kind ≡ kind_of (parts_of self) }
+        ensures borders { result.borders.items ≡ (parts_of self).borders }
+        ensures mark { result.mark ≡ (parts_of self).mark }
+        ensures flags { result.flags.items ≡ (parts_of self).flags }
     {
-        let borders = self.borders;
-        let flags = self.flags;
-        TextLine {
-            kind: self.kind(),
+        let kind = self.kind();
+        let Parts {
             borders,
-            num_borders: self.num_borders,
-            mark: self.mark,
+            mark,
             flags,
-            num_flags: self.num_flags,
+            ..
+        } = self;
+        TextLine {
+            kind,
+            borders,
+            mark,
+            flags,
         }
     }
 }

@@ -5,8 +5,8 @@ use Rattle.gridmake.proofs.main.Goals as goal
 
 -- the stream lies within its bytes
 pub slice_bounds-stream-end : goal.slice_bounds-stream-end
-slice_bounds-stream-end c = stream-within _ _ _ c.make_stream.result _ c.make_stream.ensures.answer c.make_stream.ensures.bytes c.in-Stream.is
+slice_bounds-stream-end c = stream-within _ _ _ c.make_stream.result _ c.make_stream.ensures.answer c.make_stream.ensures.bytes c.in-Ok.is
 
-pub slice_bounds-print-end : goal.slice_bounds-print-end
-slice_bounds-print-end c =
-    sym (length-take-le _ _ (stream-within _ _ _ c.make_stream.result _ c.make_stream.ensures.answer c.make_stream.ensures.bytes c.in-Stream.is))
+pub slice_bounds-write_all-end : goal.slice_bounds-write_all-end
+slice_bounds-write_all-end c =
+    sym (length-take-le _ _ (stream-within _ _ _ c.make_stream.result _ c.make_stream.ensures.answer c.make_stream.ensures.bytes c.in-Ok.is))

@@ -1,20 +1,14 @@
 -- `sbr_make::make_stream` meets its contract.
-use Rattle.std.proofs.Common.{◌≡◌}
-use Rattle.sbr_make.specs.declared.Framed.{Framed}
-use Rattle.sbr_make.specs.declared.Framed.TheVariants.{All}
-use Rattle.sbr_make.specs.declared.Frames.{Frames}
-use Rattle.sbr_make.specs.Making.{complete, stream_of, text_stream}
-use Rattle.sbr_make.specs.Code.{making_of, InRoom}
+use Rattle.std.proofs.Common.{◌≡◌, Ok, sym, ap, ◌∙◌, arith, ℕ}
+use lib.ListN.{length-set}
+use Rattle.sbr_make.specs.Making.{stream_of, text_stream, bytes_made}
+use Rattle.sbr_make.specs.Code.{making_of}
 use Rattle.sbr_make.proofs.Streams.{stream-bytes}
 use Rattle.sbr_make.proofs.make_stream.Goals as goal
-use Rattle.sbr_make.proofs.make_stream.Goals.{After-add_lines}
 
--- the text makes the stream of all frames, with the bytes that have their bits, and they have room
-made : (c : After-add_lines) (f : Frames) → ◌≡◌ {A = Framed} c.add_lines.result (All f) → let m = making_of f c.add_lines.new.bytes in
-    (text_stream c.args.text.now ≡ complete (stream_of m)) × InRoom m
-made c f e = rw e at c.add_lines.ensures
-
-pub returns-in-All-clause-bytes : goal.returns-in-All-clause-bytes
-returns-in-All-clause-bytes c =
-    let o = made (goal.at.returns-in-All-clause-bytes c).After-add_lines c.in-All.frames c.in-All.is in
-    rw o.0 (stream-bytes (making_of c.in-All.frames c.add_lines.new.bytes) o.1)
+pub returns-clause-bytes : goal.returns-clause-bytes
+returns-clause-bytes c =
+    let m = making_of c.frames.inside in
+    let s : text_stream c.args.text.now ≡ Ok (stream_of m) =
+    sym (rw (c.in_ok-frames.was, sym c.frames.view_is) at c.add_lines.ensures) in
+    stream-bytes m c.frames.invariant _ _ (omega (arith, length-set {A = ℕ})) c.copy_from_slice.ensures.after ∙ ap (bytes_made c.args.stream.now) (sym s)
