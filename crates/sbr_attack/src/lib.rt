@@ -19,7 +19,7 @@ pub struct Attack {
 
 // A span as lengths of 8 and a rest.
 #[tactic(auto, using(crate::proofs::Segments::only_eights, crate::proofs::Segments::eights_and_rest))]
-fn even_segments(span: u8) -> Slots
+fn even_segments(span: u8) -> Slots<u8>
     requires { span ≤ 24 }
     ensures { result ≡ even_segments span }
 {
@@ -97,7 +97,7 @@ pub fn double_attack_grid(first: Attack, s2: u8) -> Option<SbrGrid>
 
 // The lengths from the onset to the end, last first.
 #[tactic(auto, unfolding(crate::specs::Attack::fixvar_segs))]
-fn fixvar_segs(rest: u8) -> Slots
+fn fixvar_segs(rest: u8) -> Slots<u8>
     requires { rest ≤ 16 }
     ensures { (result ≡ reverse (fixvar_segs rest)) × (1 ≤ length result) × (length result ≤ 3) }
 {
@@ -135,7 +135,7 @@ fn fixvar_grid(attack: Attack) -> SbrGrid
 
 // The lengths from the lead to the onset.
 #[tactic(auto, unfolding(crate::specs::Attack::varfix_segs))]
-fn varfix_segs(span: u8) -> Slots
+fn varfix_segs(span: u8) -> Slots<u8>
     requires { span ≤ 16 }
     ensures { (result ≡ varfix_segs span) × (1 ≤ length result) × (length result ≤ 2) }
 {

@@ -1,25 +1,24 @@
 -- Places, prices and turns of the shifts, border by border.
 use mathlib.Core.Path.{◌≡◌, refl, sym, ap, ◌∙◌}
-use mathlib.Core.Bool.{false}
+use mathlib.Core.Bool.{true, false}
 use mathlib.Core.List.{List, [], ◌∷◌, ◌++◌, append_assoc, append-nil}
 use Prim.Native.Nat.{ℕ, zero, suc, ◌+◌, ◌*◌, ◌≤◌, ◌<◌}
 use Rattle.std.proofs.lemmas.Bool.Decides.{nat_tests}
 use native.Mathlib.Omega.{arith}
 use native.Mathlib.Numerals.{add-one}
-use borrow.Author.Tests.{lt-ltb, le-ltb}
+use borrow.Author.Tests.{lt-ltb, le-ltb, le-leb}
 use lib.ListN.{length, drop, set, get_or, drop_of_length-le}
 use lib.Seq.{set_split, drop-set-lt}
 use Rattle.std.specs.Prelude.{zip, sum_by, Option, Some, None}
+use Rattle.std.specs.List.{list_all}
+use Rattle.std.specs.Prelude.{leb}
+use Rattle.std.proofs.lemmas.List.Folds.{list_all-append}
 use Rattle.std.proofs.lemmas.List.{at_drop_more}
 use Rattle.std.proofs.lemmas.List.Sums.{sum_by-cons}
 use Rattle.sbr_grid.specs.Grid.{first}
-use Rattle.sbr_grid.proofs.First.{first-length, first-get_or, first-drop, first-drop_past, first_taken, first-set, first_push}
+use Rattle.sbr_grid.proofs.First.{first-length, first-get_or, first-drop, first_taken, first-set, first_push}
 use Rattle.sbr_borders.specs.declared.WantedBorder.{WantedBorder}
 use Rattle.sbr_borders.specs.Borders.{shift_count, place, price, places, prices, prepend, next_shifts, onset_at}
-
--- the first n wanted borders of an array
-abbrev wants : ℕ → List WantedBorder → List WantedBorder
-wants n bs = first (onset_at 0) n bs
 
 -- what a read past a list of borders gives
 abbrev pub no_border : WantedBorder
@@ -46,6 +45,10 @@ pub places_more : (d : WantedBorder) (ws : List WantedBorder) (is out more r : L
 unfolding places
 places_more d ws is out more r i v h k e f g =
     rw (e, append_assoc, f) (rw (at_drop_more (λ l. l) ws i d h, at_drop_more (λ l. l) is i 0 k) at g)
+
+-- one place more that is near
+pub near_more : (out more : List ℕ) (v : ℕ) → more ≡ out ++ (v ∷ []) → list_all (λ b. leb b 33) out ≡ true → v ≤ 33 → list_all (λ b. leb b 33) more ≡ true
+near_more out more v e f h = rw (e, list_all-append (λ b. leb b 33) out (v ∷ []), f, le-leb v 33 h) refl
 
 -- every border has its place
 pub places_all : (ws : List WantedBorder) (is out r : List ℕ) (i : ℕ) → length ws ≤ i → out ++ places (drop i ws) is ≡ r → out ≡ r
@@ -81,44 +84,44 @@ onto_prepend xs i None = refl
 onto_prepend xs i (Some is) = ap Some (sym (append_assoc xs (i ∷ []) is))
 
 -- the borders before index i have turned back to next, and the others turn from there
-pub record Turns (n : ℕ) (bs : List WantedBorder) (is : List ℕ) (i : ℕ) (next : List ℕ) : Type 0 where
-  pub rest : onto (first 0 i next) (next_shifts (drop i (wants n bs)) (drop i (first 0 n next))) ≡ next_shifts (wants n bs) (first 0 n is)
+pub record Turns (ws : List WantedBorder) (is : List ℕ) (i : ℕ) (next : List ℕ) : Type 0 where
+  pub rest : onto (first 0 i next) (next_shifts (drop i ws) (drop i (first 0 (length ws) next))) ≡ next_shifts ws (first 0 (length ws) is)
 
-module _ {n : ℕ} {bs : List WantedBorder} {is : List ℕ} {i : ℕ} {next : List ℕ} (t : Turns n bs is i next) (h : i < n) (k : i < length next) where
+module _ (d : WantedBorder) {ws : List WantedBorder} {is : List ℕ} {i : ℕ} {next : List ℕ} (t : Turns ws is i next) (h : i < length ws) (k : i < length next) where
   -- the border at i has its last shift: it turns back
-  pub turns_next : shift_count (get_or bs i (onset_at 0)) ≤ get_or next i 0 + 1 → Turns n bs is (i + 1) (set next i 0)
+  pub turns_next : shift_count (get_or ws i d) ≤ get_or next i 0 + 1 → Turns ws is (i + 1) (set next i 0)
   unfolding next_shifts
   turns_next e =
       record {
         rest = rw (
           first_push 0 i next 0 k,
-          first-set 0 n i next 0 k,
-          drop-set-lt (i + 1) (first 0 n next) i 0 (omega arith),
-          ← onto_prepend (first 0 i next) 0 (next_shifts (drop (i + 1) (wants n bs)) (drop (i + 1) (first 0 n next))),
+          first-set 0 (length ws) i next 0 k,
+          drop-set-lt (i + 1) (first 0 (length ws) next) i 0 (omega arith),
+          ← onto_prepend (first 0 i next) 0 (next_shifts (drop (i + 1) ws) (drop (i + 1) (first 0 (length ws) next))),
         ) (rw (
-          first-drop (onset_at 0) n i bs h,
-          first-drop 0 n i next h,
-          le-ltb (get_or next i 0 + 1) (shift_count (get_or bs i (onset_at 0))) e,
+          at_drop_more (λ l. l) ws i d h,
+          first-drop 0 (length ws) i next h,
+          le-ltb (get_or next i 0 + 1) (shift_count (get_or ws i d)) e,
         ) at t.rest);
       }
 
   -- the border at i turns
-  pub turns-stop : (v : ℕ) → v ≡ get_or next i 0 + 1 → v < shift_count (get_or bs i (onset_at 0)) → Some (first 0 n (set next i v)) ≡ next_shifts (wants n bs) (first 0 n is)
+  pub turns-stop : (v : ℕ) → v ≡ get_or next i 0 + 1 → v < shift_count (get_or ws i d) → Some (first 0 (length ws) (set next i v)) ≡ next_shifts ws (first 0 (length ws) is)
   unfolding next_shifts
   turns-stop v e l =
       ap Some
-      (first-set 0 n i next v k
-      ∙ set_split (first 0 n next) i v (omega (arith, first-length 0 n next))
-      ∙ rw (first_taken 0 i n next (omega arith), ← add-one i, e))
+      (first-set 0 (length ws) i next v k
+      ∙ set_split (first 0 (length ws) next) i v (omega (arith, first-length 0 (length ws) next))
+      ∙ rw (first_taken 0 i (length ws) next (omega arith), ← add-one i, e))
       ∙ rw (
-        first-drop (onset_at 0) n i bs h,
-        first-drop 0 n i next h,
-        lt-ltb (get_or next i 0 + 1) (shift_count (get_or bs i (onset_at 0))) (omega arith),
+        at_drop_more (λ l. l) ws i d h,
+        first-drop 0 (length ws) i next h,
+        lt-ltb (get_or next i 0 + 1) (shift_count (get_or ws i d)) (omega arith),
       ) at t.rest
 
 -- every border has its last shift
-pub turns-end : {n : ℕ} {bs : List WantedBorder} {is : List ℕ} {i : ℕ} {next : List ℕ} → Turns n bs is i next → i ≡ n
-    → None ≡ next_shifts (wants n bs) (first 0 n is)
+pub turns-end : {ws : List WantedBorder} {is : List ℕ} {i : ℕ} {next : List ℕ} → Turns ws is i next → length ws ≤ i
+    → None ≡ next_shifts ws (first 0 (length ws) is)
 unfolding next_shifts
-turns-end {n} {bs} {is} {i} {next} t e =
-    rw (first-drop_past (onset_at 0) n i bs (omega arith)) at t.rest
+turns-end {ws} {is} {i} {next} t h =
+    rw (drop_of_length-le ws {i = i} h) at t.rest

@@ -3,13 +3,13 @@ use mathlib.Core.Path.{◌≡◌, refl, sym, ap, ◌∙◌}
 use mathlib.Core.Bool.{Bool, true, false, ◌&&◌}
 use mathlib.Core.List.{List, [], ◌∷◌, ◌++◌, append_assoc, append-nil, reverse}
 use Prim.Native.Nat.{ℕ, suc, ◌+◌, ◌-◌, ◌≤◌, ◌<◌}
-use borrow.Author.Tests.{lt-ltb, le-ltb}
+use borrow.Author.Tests.{lt-ltb, le-ltb, le-leb}
 use native.Mathlib.Omega.{arith}
-use lib.ListN.{length, drop, get_or, drop_of_length-le}
+use lib.ListN.{length, take, drop, get_or, drop_of_length-le}
 use Rattle.std.proofs.lemmas.List.{at_drop_more, reverse-append}
 use Rattle.std.specs.List.{list_all}
 use Rattle.std.specs.Prelude.{slice_index}
-use Rattle.sbr_borders.specs.Borders.{rises_from, last_or, steps_up, steps_down, even_ok, all_even}
+use Rattle.sbr_borders.specs.Borders.{rises_from, last_or, steps_up, steps_down, even_ok, all_even, reaches}
 
 -- rising borders, the first of those that are left above p
 pub rises_more : (p : ℕ) (r : Bool) (bs : List ℕ) (i : ℕ) → i < length bs → p < get_or bs i 0 → rises_from p (drop i bs) ≡ r → rises_from (get_or bs i 0) (drop (i + 1) bs) ≡ r
@@ -31,6 +31,13 @@ pub all_even_is : (ds : List ℕ) → list_all (λ d. even_ok d) ds ≡ all_even
 unfolding all_even
 all_even_is [] = refl
 all_even_is (d ∷ ds) = ap (λ r. even_ok d && r) (all_even_is ds)
+
+-- both sides' tests, of counts that fit
+pub reaches_by : (lead t k : ℕ) (bs ups downs : List ℕ) (r : Bool) → k ≤ 3 → k ≤ length bs → length bs - k ≤ 3 → ups ≡ steps_up lead (take k bs)
+    → list_all (λ d. even_ok d) ups ≡ true → downs ≡ steps_down t (reverse (drop k bs)) → r ≡ list_all (λ d. even_ok d) downs → r ≡ reaches lead t k bs
+unfolding reaches
+reaches_by lead t k bs ups downs r h i j u e d f =
+    rw (← u, ← d, le-leb k 3 h, le-leb k (length bs) i, le-leb (length bs - k) 3 j, ← all_even_is ups, e) (f ∙ all_even_is downs)
 
 -- the last border
 pub last_is : (p : ℕ) (bs : List ℕ) → 1 ≤ length bs → slice_index bs (length bs - 1) ≡ last_or p bs

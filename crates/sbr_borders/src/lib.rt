@@ -1,9 +1,11 @@
 // Borders that a plan puts in a frame: shifts of the wanted borders, and the even lengths that reach them (src/sbr_encoder.rs).
 #![tactic(auto)]
 
-ghost use Rattle.std.specs.Prelude.{◌≡◌, ℕ, reverse, length, zip, sum_by, ◌≤◌};
+ghost use Rattle.std.specs.Prelude.{◌≡◌, ℕ, reverse, length, drop, zip, sum_by, IfSome, ◌≤◌};
+ghost use Rattle.std.specs.Option.{option_map};
+ghost use Rattle.sbr_grid.specs.Grid.{first};
 ghost use Rattle.std.specs.List.{list_all};
-ghost use Rattle.sbr_borders.specs.Borders.{shift_count, place, price, prices, rises_from, last_or, steps_up, steps_down, even_ok, all_even, reaches, fit};
+ghost use Rattle.sbr_borders.specs.Borders.{shift_count, place, price, prices, next_shifts, rises_from, last_or, steps_up, steps_down, even_ok, all_even, reaches, fit};
 ghost use Rattle.sbr_borders.specs.Frames.{InFrame};
 
 use sbr_build::Slots;
@@ -26,10 +28,10 @@ pub struct Wanted {
 }
 
 impl Wanted {
-    ghost use Rattle.std.specs.Prelude.{IfSome, drop};
-    ghost use Rattle.std.specs.Option.{option_map};
+    ghost use Rattle.std.specs.Prelude.{◌≡◌, true, leb, length};
+    ghost use Rattle.std.specs.List.{list_all};
     ghost use Rattle.sbr_grid.specs.Grid.{first};
-    ghost use Rattle.sbr_borders.specs.Borders.{places, next_shifts};
+    ghost use Rattle.sbr_borders.specs.Borders.{places};
     ghost use Rattle.sbr_borders.specs.Wanted.{wanted_list};
 
     // Most borders inside a frame.
@@ -43,40 +45,16 @@ impl Wanted {
     }
 
     // Where the shifts put the borders.
-    pub fn borders_of(&self, shifts: &[u32; Wanted::MAX_WANTED]) -> Slots
-        ensures { (result ≡ places (wanted_list self.now) (first 0 self.now.count shifts.now)) × (length result ≡ self.now.count) }
+    pub fn borders_of(&self, shifts: &[u32; Wanted::MAX_WANTED]) -> Slots<u32>
+        ensures value { result ≡ places (wanted_list self.now) (first 0 self.now.count shifts.now) }
+        ensures count { length result ≡ self.now.count }
+        ensures near { list_all (λ b. leb b 33) result ≡ true }
     {
         let mut out = Slots::new();
         for (i, b) in self.borders().iter().enumerate() {
             out.push(placed(*b, shifts[i]));
         }
         out
-    }
-
-    // What the shifts cost.
-    pub fn cost_of(&self, shifts: &[u32; Wanted::MAX_WANTED]) -> u32
-        ensures { (result ≡ prices (wanted_list self.now) (first 0 self.now.count shifts.now)) × (result ≤ 8) }
-    {
-        total_price(self.borders(), sbr_grid::front(shifts, self.count))
-    }
-
-    // The next shifts, the first border's turning fastest. Places past the count stay.
-    pub fn next_shifts(
-        &self,
-        shifts: &[u32; Wanted::MAX_WANTED],
-    ) -> Option<[u32; Wanted::MAX_WANTED]>
-        ensures value { option_map (first 0 self.now.count) result ≡ next_shifts (wanted_list self.now) (first 0 self.now.count shifts.now) }
-        ensures past { IfSome result (λ next. drop self.now.count next ≡ drop self.now.count shifts.now) }
-    {
-        let mut next = *shifts;
-        for (i, b) in self.borders().iter().enumerate() {
-            if next[i] < shift_count(*b) - 1 {
-                next[i] += 1;
-                return Some(next);
-            }
-            next[i] = 0;
-        }
-        None
     }
 }
 
@@ -88,17 +66,16 @@ fn shift_count(b: WantedBorder) -> u32
 }
 
 // Where a shift puts a border: 0 leaves it, 1 is one slot earlier, and 2, which only the isolating border has, one slot later.
-fn placed(b: WantedBorder, shift: u32) -> u8
+fn placed(b: WantedBorder, shift: u32) -> u32
     requires { (1 ≤ b.slot) × (b.slot ≤ 32) }
-    ensures { result ≡ place b shift }
+    ensures { (result ≡ place b shift) × (result ≤ 33) }
 {
-    let slot = b.slot as u8;
     if shift == 0 {
-        slot
+        b.slot
     } else if b.onset || shift == 1 {
-        slot - 1
+        b.slot - 1
     } else {
-        slot + 1
+        b.slot + 1
     }
 }
 
@@ -115,7 +92,7 @@ fn priced(b: WantedBorder, shift: u32) -> u32
     }
 }
 
-// What the shifts of at most four borders cost.
+// The prices of shifts of at most four borders, added.
 fn total_price(wanted: &[WantedBorder], shifts: &[u32]) -> u32
     requires { length wanted.now ≤ 4 }
     ensures { result ≡ sum_by (λ p. price p.0 p.1) (zip wanted.now shifts.now) }
@@ -127,8 +104,36 @@ fn total_price(wanted: &[WantedBorder], shifts: &[u32]) -> u32
         .sum()
 }
 
+// What the shifts of at most four borders cost.
+pub fn cost_of(wanted: &[WantedBorder], shifts: &[u32]) -> u32
+    requires { length wanted.now ≤ 4 }
+    ensures { (result ≡ prices wanted.now shifts.now) × (result ≤ 8) }
+{
+    total_price(wanted, shifts)
+}
+
+// The next shifts, the first border's turning fastest. Places past the borders stay.
+pub fn next_shifts(
+    wanted: &[WantedBorder],
+    shifts: &[u32; Wanted::MAX_WANTED],
+) -> Option<[u32; Wanted::MAX_WANTED]>
+    requires { length wanted.now ≤ 4 }
+    ensures value { option_map (first 0 (length wanted.now)) result ≡ next_shifts wanted.now (first 0 (length wanted.now) shifts.now) }
+    ensures past { IfSome result (λ next. drop (length wanted.now) next ≡ drop (length wanted.now) shifts.now) }
+{
+    let mut next = *shifts;
+    for (i, b) in wanted.iter().enumerate() {
+        if next[i] < shift_count(*b) - 1 {
+            next[i] += 1;
+            return Some(next);
+        }
+        next[i] = 0;
+    }
+    None
+}
+
 // Each border is above the one before it, the first above the lead.
-pub fn rises_from(lead: u8, borders: &[u8]) -> bool
+pub fn rises_from(lead: u32, borders: &[u32]) -> bool
     ensures { result ≡ rises_from lead borders.now }
 {
     let mut last = lead;
@@ -142,14 +147,14 @@ pub fn rises_from(lead: u8, borders: &[u8]) -> bool
 }
 
 // A length that can be written down: even, 2 to 8.
-fn even_ok(len: u8) -> bool
+fn even_ok(len: u32) -> bool
     ensures { result ≡ even_ok len }
 {
     2 <= len && len <= 8 && len % 2 == 0
 }
 
 // Every length can be written down.
-fn all_even(lengths: &[u8]) -> bool
+fn all_even(lengths: &[u32]) -> bool
     ensures { result ≡ list_all (λ len. even_ok len) lengths.now }
 {
     lengths.iter().all(|len| even_ok(*len))
@@ -157,7 +162,7 @@ fn all_even(lengths: &[u8]) -> bool
 
 // The first k borders are reached by leading lengths and the others by trailing ones.
 #[tactic(auto, using(crate::proofs::Walks::all_even_is), unfolding(crate::specs::Borders::reaches))]
-fn reaches(lead: u8, t: u8, k: usize, borders: &[u8]) -> bool
+fn reaches(lead: u32, t: u32, k: usize, borders: &[u32]) -> bool
     requires { length borders.now ≤ 4 }
     ensures { result ≡ reaches lead t k borders.now }
 {
@@ -171,7 +176,7 @@ fn reaches(lead: u8, t: u8, k: usize, borders: &[u8]) -> bool
 }
 
 // The least count of leading lengths with which every border is reached.
-pub fn fitting(lead: u8, t: u8, borders: &[u8]) -> Option<usize>
+pub fn fitting(lead: u32, t: u32, borders: &[u32]) -> Option<usize>
     requires { length borders.now ≤ 4 }
     ensures { result ≡ fit 4 0 lead t borders.now }
 {
@@ -185,7 +190,7 @@ pub fn fitting(lead: u8, t: u8, borders: &[u8]) -> Option<usize>
 
 // The last border.
 #[tactic(auto, using(crate::proofs::Walks::last_is))]
-pub fn last_border(borders: &[u8]) -> u8
+pub fn last_border(borders: &[u32]) -> u32
     requires { 1 ≤ length borders.now }
     ensures { (lead : ℕ) → result ≡ last_or lead borders.now }
 {
@@ -193,7 +198,7 @@ pub fn last_border(borders: &[u8]) -> u8
 }
 
 // The lengths from the lead up through the borders.
-pub fn leading_lengths(lead: u8, borders: &[u8]) -> Slots
+pub fn leading_lengths(lead: u32, borders: &[u32]) -> Slots<u32>
     requires { length borders.now ≤ 4 }
     ensures { (result ≡ steps_up lead borders.now) × (length result ≡ length borders.now) }
 {
@@ -208,7 +213,7 @@ pub fn leading_lengths(lead: u8, borders: &[u8]) -> Slots
 
 // The lengths from the end t down through the borders: the last one first.
 // One function for both sides is no plainer: it takes an iterator of either end and a closure that turns the difference round.
-pub fn trailing_lengths(t: u8, borders: &[u8]) -> Slots
+pub fn trailing_lengths(t: u32, borders: &[u32]) -> Slots<u32>
     requires { length borders.now ≤ 4 }
     ensures { (result ≡ steps_down t (reverse borders.now)) × (length result ≡ length borders.now) }
 {

@@ -1,21 +1,42 @@
 -- One number more in an array of slots with its count.
-use mathlib.Core.Path.{◌≡◌, ap, ◌∙◌}
+use mathlib.Core.Path.{◌≡◌, refl, sym, ap, ◌∙◌}
 use mathlib.Core.List.{List, [], ◌∷◌, ◌++◌}
-use Prim.Native.Nat.{ℕ, ◌+◌, ◌≤◌, ◌<◌}
+use Prim.Native.Nat.{ℕ, zero, suc, ◌+◌, ◌≤◌, ◌<◌}
 use native.Mathlib.Omega.{arith}
-use lib.ListN.{length, set}
+use native.Mathlib.Numerals.{add-one}
+use lib.ListN.{length, length-map, set, take}
+use Rattle.std.specs.Prelude.{map}
 use Rattle.sbr_grid.specs.Grid.{first}
-use Rattle.sbr_grid.proofs.First.{first-length, first-first, first_push}
+use Rattle.sbr_grid.proofs.First.{first_take, first-length, first-first}
 
--- the array of a list, and one number more behind it
-pub first_with : (n : ℕ) (slots l : List ℕ) (x : ℕ) → first 0 n slots ≡ l → length l < length slots → first 0 (n + 1) (set slots n x) ≡ l ++ (x ∷ [])
-first_with n slots l x e h =
-    first_push 0 n slots x (omega (arith, first-length 0 n slots, ap length e)) ∙ ap (λ t. t ++ (x ∷ [])) e
+module _ {A : Type 0} where
+  -- n items are as many
+  length-front : (n : ℕ) (xs : List A) → n ≤ length xs → length (take n xs) ≡ n
+  length-front zero xs h = refl
+  length-front (suc n) [] h = absurd (omega arith)
+  length-front (suc n) (x ∷ xs) h = ap suc (length-front n xs (omega arith))
 
--- an array with a count of at most four holds at most four
-pub first_few : (n : ℕ) (slots l : List ℕ) → n ≤ 4 → first 0 n slots ≡ l → length l ≤ 4
-first_few n slots l h e = omega (arith, first-length 0 n slots, ap length e)
+  -- one more item
+  front-set : (n : ℕ) (xs : List A) (x : A) → n < length xs → take (suc n) (set xs n x) ≡ take n xs ++ (x ∷ [])
+  front-set n [] x h = absurd (omega arith)
+  front-set zero (y ∷ xs) x h = refl
+  front-set (suc n) (y ∷ xs) x h = ap {B = List A} (λ t. y ∷ t) (front-set n xs x (omega arith))
 
--- the array of at most four numbers holds them
-pub first_of : (n : ℕ) (slots l : List ℕ) → n ≡ length l → slots ≡ first 0 4 l → length l ≤ 4 → first 0 n slots ≡ l
-first_of n slots l e f h = rw (e, f) (first-first 0 4 l h)
+  -- the array of a list, and one number more behind it
+  pub first_with : (n : ℕ) (slots l : List A) (x : A) → n ≤ length slots → take n slots ≡ l → length l < length slots → take (n + 1) (set slots n x) ≡ l ++ (x ∷ [])
+  first_with n slots l x k e h =
+      let m : n < length slots = omega (arith, length-front n slots k, ap length e) in
+      rw (add-one n) (front-set n slots x m ∙ ap (λ t. t ++ (x ∷ [])) e)
+
+  -- an array with a count of at most four holds at most four
+  pub first_few : (n : ℕ) (slots l : List A) → n ≤ 4 → length slots ≡ 4 → take n slots ≡ l → length l ≤ 4
+  first_few n slots l h k e = omega (arith, length-front n slots (omega arith), ap length e)
+
+  -- the array of at most four numbers holds them
+  pub first_of : (d : A) (n : ℕ) (slots l : List A) → n ≡ length l → slots ≡ first d 4 l → length l ≤ 4 → take n slots ≡ l
+  first_of d n slots l e f h =
+      rw (e, f) (first_take d (length l) (first d 4 l) (omega (arith, first-length d 4 l)) ∙ first-first d 4 l h)
+
+-- the array of a function of at most four numbers holds them
+pub first_map : (f : ℕ → ℕ) (n : ℕ) (slots l m : List ℕ) → n ≡ length l → l ≡ m → slots ≡ first 0 4 (map f l) → length l ≤ 4 → take n slots ≡ map f m
+first_map f n slots l m e g s h = first_of 0 n slots (map f l) (e ∙ sym (length-map l f)) s (omega (arith, length-map l f)) ∙ ap (map f) g

@@ -1,7 +1,7 @@
 // Grids of even envelopes, and what all builders are made of: src/sbr_encoder.rs.
 #![tactic(auto)]
 
-ghost use Rattle.std.specs.Prelude.{◌≡◌, List, ℕ, [], ◌++◌, ◌∷◌, map, length, ◌+◌, ◌-◌, ◌≤◌, ◌<◌};
+ghost use Rattle.std.specs.Prelude.{◌≡◌, List, ℕ, [], ◌++◌, ◌∷◌, map, min, length, ◌+◌, ◌-◌, ◌≤◌, ◌<◌};
 ghost use Rattle.sbr_grid.specs.Grid.{first, record_of};
 ghost use Rattle.sbr_build.specs.Frames.{FrameBounds};
 ghost use Rattle.sbr_build.specs.Build.{raw, grid_of, fixfix_grid, varvar_grid, even_share, shares, varfix_plain};
@@ -42,45 +42,47 @@ impl Onsets {
 
 // At most four numbers of slots, as lengths or borders; contracts see their list.
 #[derive(Drop)]
-pub struct Slots {
+pub struct Slots<T> {
     count: usize,
-    slots: [u8; SbrGrid::MAX_REL_BORD],
+    slots: [T; SbrGrid::MAX_REL_BORD],
 }
 
-impl Model for Slots {
-    ghost Value = { List ℕ };
+impl<T> Model for Slots<T> {
+    ghost use Rattle.std.specs.Prelude.{List, take, ◌≤◌};
 
-    ghost view = { λ l. first 0 l.count l.slots };
+    ghost Value = { List T };
+
+    ghost view = { λ l. take l.count l.slots };
 
     ghost invariant = { λ l. l.count ≤ 4 };
 }
 
-impl Slots {
+impl<T: Copy + Default> Slots<T> {
     // None yet.
     pub fn new() -> Self
         ensures { result ≡ [] }
     {
         Slots {
             count: 0,
-            slots: [0u8; SbrGrid::MAX_REL_BORD],
+            slots: [T::default(); SbrGrid::MAX_REL_BORD],
         }
     }
 
     // The numbers handed in, in order.
     #[tactic(auto, using(crate::proofs::SlotList::first_of))]
-    pub fn of(slots: &[u8]) -> Self
+    pub fn of(slots: &[T]) -> Self
         requires { length slots.now ≤ 4 }
         ensures { result ≡ slots.now }
     {
         Slots {
             count: slots.len(),
-            slots: sbr_grid::padded(slots, 0),
+            slots: sbr_grid::padded(slots, T::default()),
         }
     }
 
     // One more behind the others.
     #[tactic(auto, using(crate::proofs::SlotList::first_with))]
-    pub fn push(&mut self, more: u8)
+    pub fn push(&mut self, more: T)
         requires { length self.old < 4 }
         ensures { self.new ≡ self.old ++ (more ∷ []) }
     {
@@ -90,10 +92,38 @@ impl Slots {
 
     // The numbers, in order.
     #[tactic(auto, using(crate::proofs::SlotList::first_few))]
-    pub fn as_slice(&self) -> &[u8]
+    pub fn as_slice(&self) -> &[T]
         ensures { (result.now ≡ self.now) × (length result.now ≤ 4) }
     {
-        sbr_grid::front(&self.slots, self.count)
+        &self.slots[..self.count]
+    }
+}
+
+// A number as a byte; above 255 it is 255.
+fn byte_of(n: u32) -> u8
+    ensures { result ≡ min n 255 }
+{
+    n.min(255) as u8
+}
+
+// The first four numbers as bytes; places past them are zero.
+fn four_bytes(numbers: &[u32]) -> [u8; SbrGrid::MAX_REL_BORD]
+    ensures { result ≡ first 0 4 (map (λ n. min n 255) numbers.now) }
+{
+    sbr_grid::padded::<u32, { SbrGrid::MAX_REL_BORD }>(numbers, 0).map(byte_of)
+}
+
+impl Slots<u32> {
+    // The numbers as bytes; one above 255 is 255.
+    #[tactic(auto, using(crate::proofs::SlotList::first_map))]
+    pub fn bytes(&self) -> Slots<u8>
+        ensures { result ≡ map (λ n. min n 255) self.now }
+    {
+        let numbers = self.as_slice();
+        Slots {
+            count: numbers.len(),
+            slots: four_bytes(numbers),
+        }
     }
 }
 
@@ -179,7 +209,7 @@ fn share(left: u8, remaining: u8) -> u8
 }
 
 // The lengths that num_env envelopes write down of `span` slots.
-fn shared(num_env: usize, span: u8) -> Slots
+fn shared(num_env: usize, span: u8) -> Slots<u8>
     requires { (1 ≤ num_env) × (num_env ≤ 4) }
     ensures { (result ≡ shares num_env span) × (length result < num_env) }
 {

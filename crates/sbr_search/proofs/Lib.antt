@@ -1,3 +1,4 @@
 pub mod Bare
 pub mod Bounds
+pub mod Near
 pub mod TryEnds

@@ -40,19 +40,20 @@ fn try_end(
     over: u8,
     frame: Frame,
     shifts: &[u32; Wanted::MAX_WANTED],
-    borders: &[u8],
+    borders: &[u32],
     cost: u32,
     best: Option<Cheapest>,
 ) -> Option<Cheapest>
     requires { (over ≤ 3) × (1 ≤ length borders.now) × (length borders.now ≤ 4) × (cost ≤ 8) }
     ensures { (k : ℕ) → option_map (best_of k) result ≡ try_ends 1 over frame.nts frame.lead (first 0 k shifts.now) borders.now cost (option_map (best_of k) best) }
 {
-    let t = frame.nts + over;
+    let lead = u32::from(frame.lead);
+    let t = u32::from(frame.nts + over);
     let total = cost + u32::from(over);
     if t <= sbr_borders::last_border(borders) || !is_cheaper(total, best) {
         return best;
     }
-    match sbr_borders::fitting(frame.lead, t, borders) {
+    match sbr_borders::fitting(lead, t, borders) {
         Some(leading) => Some(Cheapest {
             shifts: *shifts,
             over,
@@ -72,13 +73,13 @@ fn try_shifts(
 ) -> Option<Cheapest>
     ensures { option_map (best_of w.now.count) result ≡ try_shifts frame.nts frame.lead (wanted_list w.now) (first 0 w.now.count shifts.now) (option_map (best_of w.now.count) best) }
 {
-    let cost = w.cost_of(shifts);
+    let cost = sbr_borders::cost_of(w.borders(), sbr_grid::front(shifts, w.count));
     if !is_cheaper(cost, best) {
         return best;
     }
     let placed = w.borders_of(shifts);
     let borders = placed.as_slice();
-    if !sbr_borders::rises_from(frame.lead, borders) {
+    if !sbr_borders::rises_from(u32::from(frame.lead), borders) {
         return best;
     }
     let mut now = best;
@@ -96,7 +97,7 @@ fn varvar_from_borders(w: &Wanted, frame: Frame) -> Option<Cheapest>
     let mut best = None;
     for _tried in 0..MAX_SHIFTS {
         best = try_shifts(w, &shifts, frame, best);
-        match w.next_shifts(&shifts) {
+        match sbr_borders::next_shifts(w.borders(), &shifts) {
             Some(next) => shifts = next,
             None => return best,
         }
@@ -111,8 +112,8 @@ fn plan_grid(w: &Wanted, plan: Cheapest, frame: Frame) -> SbrGrid
     let placed = w.borders_of(&plan.shifts);
     let borders = placed.as_slice();
     let (leading, trailing) = borders.split_at(plan.leading.min(borders.len()));
-    let rel_0 = sbr_borders::leading_lengths(frame.lead, leading);
-    let rel_1 = sbr_borders::trailing_lengths(frame.nts + plan.over, trailing);
+    let rel_0 = sbr_borders::leading_lengths(u32::from(frame.lead), leading).bytes();
+    let rel_1 = sbr_borders::trailing_lengths(u32::from(frame.nts + plan.over), trailing).bytes();
     sbr_build::varvar_grid(frame.lead, plan.over, rel_0.as_slice(), rel_1.as_slice(), 1)
 }
 

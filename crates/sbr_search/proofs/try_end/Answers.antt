@@ -17,10 +17,10 @@ returns-in-Some c k =
     let lead = c.args.frame.lead in
     let cheap = rw c.from.ensures at (sym (c.is_cheaper.ensures k) ∙ c.if-not-is_cheaper.false) in
     rw c.from.ensures
-    (end-fit _ _ lead _ _ _ _ (omega (arith, c.last_border.ensures lead)) cheap _ (sym c.fitting.ensures ∙ c.in-Some.is))
+    (end-fit _ _ lead _ _ _ _ (omega (arith, c.last_border.ensures lead)) cheap _ (sym (rw (c.from-lead.ensures, c.from-t.ensures) at c.fitting.ensures) ∙ c.in-Some.is))
 
 pub returns-in-None : goal.returns-in-None
 returns-in-None c k =
     let lead = c.args.frame.lead in
     let cheap = rw c.from.ensures at (sym (c.is_cheaper.ensures k) ∙ c.if-not-is_cheaper.false) in
-    end-unfit _ _ lead _ _ _ _ (omega (arith, c.last_border.ensures lead)) cheap (sym c.fitting.ensures ∙ c.in-None.is)
+    end-unfit _ _ lead _ _ _ _ (omega (arith, c.last_border.ensures lead)) cheap (sym (rw (c.from-lead.ensures, c.from-t.ensures) at c.fitting.ensures) ∙ c.in-None.is)

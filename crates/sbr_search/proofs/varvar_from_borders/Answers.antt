@@ -11,12 +11,12 @@ loop-tried-init c =
 
 pub returns-in-None : goal.returns-in-None
 returns-in-None c =
-    let e = sym (ap (option_map (first 0 c.args.w.now.count)) c.in-None.is) ∙ c.next_shifts.ensures.value in
+    let e = sym (ap (option_map (first 0 c.args.w.now.count)) c.in-None.is) ∙ rw (c.borders.ensures.1, c.borders.ensures.0) at c.next_shifts.ensures.value in
     search-last 24 _ _ _ _ _ _ _ _ (omega arith) c.try_shifts-best.ensures e c.loop-tried.invariant.1
 
 pub loop-tried-preserved : goal.loop-tried-preserved
 loop-tried-preserved c =
-    let e = sym (ap (option_map (first 0 c.args.w.now.count)) c.in-Some.is) ∙ c.next_shifts.ensures.value in
+    let e = sym (ap (option_map (first 0 c.args.w.now.count)) c.in-Some.is) ∙ rw (c.borders.ensures.1, c.borders.ensures.0) at c.next_shifts.ensures.value in
     (omega arith, search-next 24 _ _ _ _ _ _ _ _ _ (omega arith) c.try_shifts-best.ensures e c.loop-tried.invariant.1)
 
 pub returns : goal.returns
