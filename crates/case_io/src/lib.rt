@@ -9,7 +9,6 @@ ghost use Rattle.case_io.specs.Layout.{bytes_grid};
 
 use sbr_grid::{FrameClass, Refusal, SbrGrid, TimeGrid};
 use std::fmt::Display;
-use std::io;
 use std::io::Read;
 
 // Most entries of a table, and most samples, that a case hands in.
@@ -98,14 +97,20 @@ fn double(bits: u64) -> f64
 }
 
 // Fills the start of a table, and answers the entries that it has.
-pub fn read_table<'a>(rt: &impl Input, table: &'a mut [u8; MAX_TABLE]) -> &'a [u8] {
+pub fn read_table<'a>(rt: &impl Input, table: &'a mut [u8]) -> &'a [u8]
+    requires { 255 ≤ length table.old }
+    ensures { length result.now ≤ 255 }
+{
     let count = usize::from(next_byte(rt));
     read_full(rt, &mut table[..count]);
     &table[..count]
 }
 
 // Sets the samples that are listed, and answers those that are handed in.
-pub fn read_samples<'a>(rt: &impl Input, x: &'a mut [f64; MAX_SAMPLES]) -> &'a [f64] {
+pub fn read_samples<'a>(rt: &impl Input, x: &'a mut [f64]) -> &'a [f64]
+    requires { 6500 ≤ length x.old }
+    ensures { length result.now ≤ 6500 }
+{
     let count = next_count(rt, MAX_SAMPLES);
     for _ in 0..next_count(rt, MAX_SAMPLES) {
         let i = next_count(rt, MAX_SAMPLES - 1);
@@ -138,86 +143,85 @@ pub fn read_grid(rt: &impl Input) -> SbrGrid {
     grid_of(next_bytes(rt))
 }
 
-// Takes each case of the input, handing on the number that its first `size` bytes hold, until the input ends or a line can't be written. Nothing says
-// that an input ends, so the cases count up to a number that no run reaches.
-pub fn each_case<F: Fn(u32) -> io::Result<()>>(rt: &impl Input, size: usize, print_case: F)
+// Takes each case of the input, handing on the number that its first `size` bytes hold, until the input ends. Nothing says that an input ends, so the
+// cases count up to a number that no run reaches. What can't be written is passed over.
+pub fn each_case<F: Fn(u32)>(rt: &impl Input, size: usize, print_case: F)
     requires few { size ≤ 4 }
     requires any { F.IsAlwaysCallable print_case }
 {
     for _ in 0..u64::MAX {
         let mut head = [0u8; 4];
         let is_whole = read_full(rt, &mut head[..size]).len() == size;
-        if !is_whole || print_case(u32::from_le_bytes(head)).is_err() {
+        if !is_whole {
             break;
         }
+        print_case(u32::from_le_bytes(head));
     }
 }
 
 // A letter for each of the envelopes.
-pub fn print_resolutions(rt: &impl Print, grid: &SbrGrid) -> io::Result<()> {
+pub fn print_resolutions(rt: &impl Print, grid: &SbrGrid) {
     for high in &grid.freq_res[..grid.num_env.min(SbrGrid::MAX_NUM_ENV)] {
-        print!(rt; "{}", if *high { 'H' } else { 'L' })?;
+        let _ = print!(rt; "{}", if *high { 'H' } else { 'L' });
     }
-    Ok(())
 }
 
 // Numbers, each after a blank.
-fn print_numbers<T: Display>(rt: &impl Print, numbers: &[T]) -> io::Result<()> {
+fn print_numbers<T: Display>(rt: &impl Print, numbers: &[T]) {
     for number in numbers {
-        print!(rt; " {number}")?;
+        let _ = print!(rt; " {number}");
     }
-    Ok(())
 }
 
 // Class, resolutions, border bytes, lengths of both sides, pointer, noise floors and override. Of a count that is too large the whole list is printed.
-pub fn print_grid(rt: &impl Print, grid: &SbrGrid) -> io::Result<()> {
-    print!(rt; "{} ", grid.frame_class)?;
-    print_resolutions(rt, grid)?;
-    print!(rt; " b0 {} b1 {} rel0", grid.var_bord_0, grid.var_bord_1)?;
+pub fn print_grid(rt: &impl Print, grid: &SbrGrid) {
+    let _ = print!(rt; "{} ", grid.frame_class);
+    print_resolutions(rt, grid);
+    let _ = print!(rt; " b0 {} b1 {} rel0", grid.var_bord_0, grid.var_bord_1);
     print_numbers(
         rt,
         &grid.rel_bord_0[..grid.num_rel_0.min(SbrGrid::MAX_REL_BORD)],
-    )?;
-    print!(rt; " rel1")?;
+    );
+    let _ = print!(rt; " rel1");
     print_numbers(
         rt,
         &grid.rel_bord_1[..grid.num_rel_1.min(SbrGrid::MAX_REL_BORD)],
-    )?;
-    print!(rt;
+    );
+    let _ = print!(rt;
         " p {} noise {} amp {}",
         grid.pointer,
         grid.num_noise,
         u8::from(grid.amp_res_override)
-    )
+    );
 }
 
-pub fn print_refusal(rt: &impl Print, why: Refusal) -> io::Result<()> {
-    print!(rt; "refused {}", u32::from(why))
+pub fn print_refusal(rt: &impl Print, why: Refusal) {
+    let _ = print!(rt; "refused {}", u32::from(why));
 }
 
 // The bits of a double; a NaN has none of its own.
-pub fn print_double(rt: &impl Print, x: f64) -> io::Result<()> {
+pub fn print_double(rt: &impl Print, x: f64) {
     if x.is_nan() {
-        return print!(rt; " nan");
+        let _ = print!(rt; " nan");
+        return;
     }
-    print!(rt; " {:016x}", x.to_bits())
+    let _ = print!(rt; " {:016x}", x.to_bits());
 }
 
 // A time grid: borders, noise borders, mark.
-pub fn print_times(rt: &impl Print, time: &TimeGrid) -> io::Result<()> {
-    print_numbers(rt, &time.t_e[..=time.num_env.min(SbrGrid::MAX_NUM_ENV)])?;
-    print!(rt; " /")?;
+pub fn print_times(rt: &impl Print, time: &TimeGrid) {
+    print_numbers(rt, &time.t_e[..=time.num_env.min(SbrGrid::MAX_NUM_ENV)]);
+    let _ = print!(rt; " /");
     print_numbers(
         rt,
         &time.t_q[..=time.num_noise.min(TimeGrid::MAX_NOISE_BORDERS - 1)],
-    )?;
-    print!(rt; " / {}", time.l_a)
+    );
+    let _ = print!(rt; " / {}", time.l_a);
 }
 
 // Every byte of a range.
-pub fn print_bytes(rt: &impl Print, bytes: &[u8]) -> io::Result<()> {
+pub fn print_bytes(rt: &impl Print, bytes: &[u8]) {
     for byte in bytes {
-        print!(rt; "{byte:02x}")?;
+        let _ = print!(rt; "{byte:02x}");
     }
-    Ok(())
 }

@@ -2,7 +2,6 @@
 #![tactic(auto)]
 
 use sbr_bands::BandTables;
-use std::io;
 
 // Most numbers for the rows.
 const MAX_ROOM: usize = 400;
@@ -35,33 +34,33 @@ struct Frame<'a> {
 }
 
 // The numbers up to place `at`, and whether those behind it are as they were.
-fn print_rows(rt: &impl Print, out: &[f64; MAX_ROOM], at: usize) -> io::Result<()> {
+fn print_rows(rt: &impl Print, out: &[f64; MAX_ROOM], at: usize) {
     for x in out.iter().take(at) {
-        case_io::print_double(rt, *x)?;
+        case_io::print_double(rt, *x);
     }
     if out.iter().skip(at).all(|x| *x == UNTOUCHED) {
-        print!(rt; " kept")
+        let _ = print!(rt; " kept");
     } else {
-        print!(rt; " touched")
+        let _ = print!(rt; " touched");
     }
 }
 
 impl Frame<'_> {
     // Reads the rest of an election's case, and prints its answer.
-    fn print_election(&self, rt: &(impl Input + Print)) -> io::Result<()> {
+    fn print_election(&self, rt: &(impl Input + Print)) {
         let border = case_io::next_signed(rt);
         let variable = case_io::next_flag(rt);
         match sbr_encoder::elect_grid(self.x, self.tables, border, variable, self.num_time_slots) {
             Ok(election) => {
-                case_io::print_grid(rt, &election.grid)?;
-                print!(rt; " transient {}", u8::from(election.transient))
+                case_io::print_grid(rt, &election.grid);
+                let _ = print!(rt; " transient {}", u8::from(election.transient));
             }
             Err(why) => case_io::print_refusal(rt, why),
         }
     }
 
     // Reads the rest of a case of energies, and prints its answer.
-    fn print_energies(&self, rt: &(impl Input + Print)) -> io::Result<()> {
+    fn print_energies(&self, rt: &(impl Input + Print)) {
         let grid = case_io::read_grid(rt);
         let room = case_io::next_count(rt, MAX_ROOM);
         let mut out = [UNTOUCHED; MAX_ROOM];
@@ -73,11 +72,11 @@ impl Frame<'_> {
             &mut out[..room],
         ) {
             Ok(count) => {
-                print!(rt; "{count}")?;
+                let _ = print!(rt; "{count}");
                 print_rows(rt, &out, count)
             }
             Err(why) => {
-                case_io::print_refusal(rt, why)?;
+                case_io::print_refusal(rt, why);
                 print_rows(rt, &out, 0)
             }
         }
@@ -85,7 +84,7 @@ impl Frame<'_> {
 }
 
 // Prints one case.
-fn print_case(rt: &(impl Input + Print), asked: Asked) -> io::Result<()> {
+fn print_case(rt: &(impl Input + Print), asked: Asked) {
     let num_time_slots = case_io::next_size(rt);
     let mut high = [0u8; case_io::MAX_TABLE];
     let mut low = [0u8; case_io::MAX_TABLE];
@@ -100,10 +99,10 @@ fn print_case(rt: &(impl Input + Print), asked: Asked) -> io::Result<()> {
         num_time_slots,
     };
     match asked {
-        Asked::Election => frame.print_election(rt)?,
-        Asked::Energies => frame.print_energies(rt)?,
+        Asked::Election => frame.print_election(rt),
+        Asked::Energies => frame.print_energies(rt),
     }
-    println!(rt)
+    let _ = println!(rt);
 }
 
 fn main(rt: HostRuntime) {

@@ -2,7 +2,6 @@
 #![tactic(auto)]
 
 use sbr_grid::SbrGrid;
-use std::io;
 
 // The bytes of the range that is written into.
 const MAX_BYTES: usize = 12;
@@ -24,11 +23,11 @@ impl From<u32> for Asked {
 }
 
 // Reads the slot count, and prints the time grid.
-fn print_time_grid(rt: &(impl Input + Print), grid: SbrGrid) -> io::Result<()> {
+fn print_time_grid(rt: &(impl Input + Print), grid: SbrGrid) {
     let num_time_slots = case_io::next_size(rt);
     match sbr_time_grid::derive_time_grid(grid, num_time_slots) {
         Ok(time) => {
-            print!(rt; "time")?;
+            let _ = print!(rt; "time");
             case_io::print_times(rt, &time)
         }
         Err(why) => case_io::print_refusal(rt, why),
@@ -36,26 +35,28 @@ fn print_time_grid(rt: &(impl Input + Print), grid: SbrGrid) -> io::Result<()> {
 }
 
 // Reads what is lent, the byte that fills it, and where to write; prints the write, and what the whole range holds after it.
-fn print_bits(rt: &(impl Input + Print), grid: SbrGrid) -> io::Result<()> {
+fn print_bits(rt: &(impl Input + Print), grid: SbrGrid) {
     let lent = case_io::next_count(rt, MAX_BYTES);
     let mut bytes = [case_io::next_byte(rt); MAX_BYTES];
     let at = case_io::next_size(rt);
     match sbr_writer::write_grid(&mut bytes[..lent], at, grid) {
-        Ok(position) => print!(rt; "written to {position}")?,
-        Err(why) => case_io::print_refusal(rt, why)?,
+        Ok(position) => {
+            let _ = print!(rt; "written to {position}");
+        }
+        Err(why) => case_io::print_refusal(rt, why),
     }
-    print!(rt; " bytes ")?;
+    let _ = print!(rt; " bytes ");
     case_io::print_bytes(rt, &bytes)
 }
 
 // Prints one case.
-fn print_case(rt: &(impl Input + Print), asked: Asked) -> io::Result<()> {
+fn print_case(rt: &(impl Input + Print), asked: Asked) {
     let grid = case_io::read_grid(rt);
     match asked {
-        Asked::TimeGrid => print_time_grid(rt, grid)?,
-        Asked::Bits => print_bits(rt, grid)?,
+        Asked::TimeGrid => print_time_grid(rt, grid),
+        Asked::Bits => print_bits(rt, grid),
     }
-    println!(rt)
+    let _ = println!(rt);
 }
 
 fn main(rt: HostRuntime) {

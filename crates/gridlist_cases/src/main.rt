@@ -2,8 +2,6 @@
 // length, low byte first, and that many bytes.
 #![tactic(auto)]
 
-use std::io;
-
 // The largest number of two bytes.
 const MAX_SIZE: usize = 65535;
 
@@ -14,11 +12,10 @@ fn skip(rt: &impl Input, count: usize) {
 }
 
 // Prints one case.
-fn print_case(rt: &(impl Input + Print), size: usize) -> io::Result<()> {
-    let got = list_io::list_input(rt, size)?;
-    println!(rt; ".")?;
+fn print_case(rt: &(impl Input + Print), size: usize) {
+    let got = list_io::list_input(rt, size);
+    let _ = println!(rt; ".");
     skip(rt, size - got);
-    Ok(())
 }
 
 fn main(rt: HostRuntime) {

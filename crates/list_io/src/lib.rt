@@ -1,12 +1,11 @@
 // Reads a stream of grids from standard input and prints its listing.
 #![tactic(auto)]
 
-ghost use Rattle.std.specs.Prelude.{◌≡◌, ◌≤◌, min, length, IfOk};
+ghost use Rattle.std.specs.Prelude.{◌≡◌, ◌≤◌, min, length};
 ghost use Rattle.sbr_list.specs.Listing.{listing};
 ghost use Rattle.sbr_list.specs.Enough.{most_input, settled};
 
 use sbr_list::{MOST_INPUT, PAGE_SIZE};
-use std::io;
 
 // How many bytes are asked for: never more than a listing needs.
 fn asked(most: usize) -> usize
@@ -41,13 +40,13 @@ fn is_whole(input: &[u8]) -> bool
     is_settled(listing(input, &mut [0u8; PAGE_SIZE]))
 }
 
-// Reads standard input, at most `most` bytes, and prints the listing of what was read, nothing else; answers how many bytes that are. No contract can
-// say what is read or printed.
-pub fn list_input(rt: &(impl Input + Print), most: usize) -> io::Result<usize>
-    ensures { IfOk result (λ read. read ≤ min most most_input) }
+// Reads standard input, at most `most` bytes, and prints the listing of what was read, nothing else; answers how many bytes that are. What can't be
+// written is passed over. No contract can say what is read or printed.
+pub fn list_input(rt: &(impl Input + Print), most: usize) -> usize
+    ensures { result ≤ min most most_input }
 {
     let mut input = [0u8; MOST_INPUT];
     let input = case_io::read_until(rt, &mut input[..asked(most)], is_whole);
-    rt.write_all(listing(input, &mut [0u8; PAGE_SIZE]))?;
-    Ok(input.len())
+    let _ = rt.write_all(listing(input, &mut [0u8; PAGE_SIZE]));
+    input.len()
 }

@@ -3,8 +3,6 @@
 
 ghost use Rattle.std.specs.Prelude.{◌≤◌};
 
-use std::io;
-
 // Most bytes of a text.
 const MAX_SIZE: usize = 65536;
 
@@ -16,20 +14,20 @@ fn size_of(number: u32) -> usize
 }
 
 // The stream, hexadecimal, or the line that is refused and why.
-fn print_made(rt: &impl Print, text: &[u8]) -> io::Result<()> {
+fn print_made(rt: &impl Print, text: &[u8]) {
     let mut stream = [0u8; sbr_make::STREAM_SIZE];
     match sbr_make::make_stream(text, &mut stream) {
-        Ok(len) => case_io::print_bytes(rt, &stream[..len])?,
+        Ok(len) => case_io::print_bytes(rt, &stream[..len]),
         Err(refused) => {
-            print!(rt; "line {} ", refused.line)?;
-            case_io::print_refusal(rt, refused.why)?;
+            let _ = print!(rt; "line {} ", refused.line);
+            case_io::print_refusal(rt, refused.why);
         }
     }
-    println!(rt)
+    let _ = println!(rt);
 }
 
 // Prints one case.
-fn print_case(rt: &(impl Input + Print), size: usize) -> io::Result<()>
+fn print_case(rt: &(impl Input + Print), size: usize)
     requires { size ≤ 65536 }
 {
     let mut text = [0u8; MAX_SIZE];

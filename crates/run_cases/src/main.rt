@@ -7,7 +7,6 @@ use run_lines::Frame;
 use sbr_bands::BandTables;
 use sbr_grid::SbrGrid;
 use sbr_run::Place;
-use std::io;
 
 // Most bytes that a run writes into, frames that it counts, and numbers of a frame's rows.
 const MAX_BYTES: usize = 2000;
@@ -59,21 +58,15 @@ impl Run<'_> {
     }
 
     // A frame, how many numbers its rows hold, and whether it begins on an attack.
-    fn print_frame(
-        &self,
-        rt: &impl Print,
-        frame: &Frame,
-        x: &[f64],
-        num_time_slots: usize,
-    ) -> io::Result<()> {
-        frame.print(rt)?;
-        print!(rt; " rows {}", self.rows(x, frame.grid, num_time_slots))?;
+    fn print_frame(&self, rt: &impl Print, frame: &Frame, x: &[f64], num_time_slots: usize) {
+        frame.print(rt);
+        let _ = print!(rt; " rows {}", self.rows(x, frame.grid, num_time_slots));
         frame.print_begins(rt)
     }
 
     // Reads the samples of a turn, makes it and prints it; keeps the number of the frame that it sends, which begins on an attack where the frame
     // before it has left the flag set.
-    fn turn(&mut self, rt: &(impl Input + Print), bytes: &mut [u8]) -> io::Result<()> {
+    fn turn(&mut self, rt: &(impl Input + Print), bytes: &mut [u8]) {
         let num_time_slots = case_io::next_size(rt);
         let variable = case_io::next_flag(rt);
         let mut x = [0.0; case_io::MAX_SAMPLES];
@@ -87,36 +80,36 @@ impl Run<'_> {
                     time: sending.time,
                     begins_on_attack: start.carried.attack,
                 };
-                print!(rt; "sent ")?;
-                self.print_frame(rt, &frame, &x, num_time_slots)?;
-                print!(rt; " transient {}", u8::from(sending.transient))?;
-                run_lines::print_place(rt, sending.place)?;
+                let _ = print!(rt; "sent ");
+                self.print_frame(rt, &frame, &x, num_time_slots);
+                let _ = print!(rt; " transient {}", u8::from(sending.transient));
+                run_lines::print_place(rt, sending.place);
                 let _ = self.sent.try_push(frame.number());
             }
             Err(why) => {
-                print!(rt; "turn ")?;
-                case_io::print_refusal(rt, why)?;
+                let _ = print!(rt; "turn ");
+                case_io::print_refusal(rt, why);
             }
         }
-        println!(rt)
+        let _ = println!(rt);
     }
 
     // Counts a frame that is read, and prints whether it is the one that was sent; nothing where no more are counted.
-    fn compare(&mut self, rt: &impl Print, frame: &Frame) -> io::Result<()> {
+    fn compare(&mut self, rt: &impl Print, frame: &Frame) {
         if MAX_FRAMES <= self.read {
-            return Ok(());
+            return;
         }
         let sent = self.sent.as_slice().get(self.read).copied();
         self.read += 1;
         if sent == Some(frame.number()) {
-            print!(rt; " as sent")
+            let _ = print!(rt; " as sent");
         } else {
-            print!(rt; " NOT AS SENT")
+            let _ = print!(rt; " NOT AS SENT");
         }
     }
 
     // Makes a reading and prints it, and whether it gives the frame that was sent.
-    fn reading(&mut self, rt: &(impl Input + Print), bytes: &[u8]) -> io::Result<()> {
+    fn reading(&mut self, rt: &(impl Input + Print), bytes: &[u8]) {
         let num_time_slots = case_io::next_size(rt);
         match sbr_run::receive_frame(bytes, num_time_slots, self.receiver) {
             Ok(receiving) => {
@@ -127,21 +120,21 @@ impl Run<'_> {
                     begins_on_attack: receiving.begins_on_attack,
                 };
                 let silence = [0.0; case_io::MAX_SAMPLES];
-                print!(rt; "read ")?;
-                self.print_frame(rt, &frame, &silence, num_time_slots)?;
-                run_lines::print_place(rt, receiving.place)?;
-                self.compare(rt, &frame)?;
+                let _ = print!(rt; "read ");
+                self.print_frame(rt, &frame, &silence, num_time_slots);
+                run_lines::print_place(rt, receiving.place);
+                self.compare(rt, &frame);
             }
             Err(why) => {
-                print!(rt; "reading ")?;
-                case_io::print_refusal(rt, why)?;
+                let _ = print!(rt; "reading ");
+                case_io::print_refusal(rt, why);
             }
         }
-        println!(rt)
+        let _ = println!(rt);
     }
 
     // A turn, a reading or a changed byte, and its line.
-    fn step(&mut self, rt: &(impl Input + Print), bytes: &mut [u8; MAX_BYTES]) -> io::Result<()> {
+    fn step(&mut self, rt: &(impl Input + Print), bytes: &mut [u8; MAX_BYTES]) {
         let step = Step::from(case_io::next_byte(rt));
         let at = case_io::next_count(rt, MAX_BYTES);
         match step {
@@ -153,16 +146,16 @@ impl Run<'_> {
 }
 
 // Reads a byte, and puts it into the range.
-fn change(rt: &(impl Input + Print), bytes: &mut [u8; MAX_BYTES], at: usize) -> io::Result<()> {
+fn change(rt: &(impl Input + Print), bytes: &mut [u8; MAX_BYTES], at: usize) {
     let byte = case_io::next_byte(rt);
     if at < MAX_BYTES {
         bytes[at] = byte;
     }
-    println!(rt; "byte changed")
+    let _ = println!(rt; "byte changed");
 }
 
 // Makes the steps of a run, and prints how many frames it sent and read, and every byte of its range.
-fn print_run(rt: &(impl Input + Print), count: u32) -> io::Result<()> {
+fn print_run(rt: &(impl Input + Print), count: u32) {
     let start = run_lines::next_place(rt, false);
     let mut high = [0u8; case_io::MAX_TABLE];
     let mut low = [0u8; case_io::MAX_TABLE];
@@ -178,11 +171,11 @@ fn print_run(rt: &(impl Input + Print), count: u32) -> io::Result<()> {
     };
     let mut bytes = [case_io::next_byte(rt); MAX_BYTES];
     for _ in 0..count {
-        run.step(rt, &mut bytes)?;
+        run.step(rt, &mut bytes);
     }
-    print!(rt; "run: {} sent, {} read, bytes ", run.sent.len(), run.read)?;
-    case_io::print_bytes(rt, &bytes)?;
-    println!(rt)
+    let _ = print!(rt; "run: {} sent, {} read, bytes ", run.sent.len(), run.read);
+    case_io::print_bytes(rt, &bytes);
+    let _ = println!(rt);
 }
 
 fn main(rt: HostRuntime) {

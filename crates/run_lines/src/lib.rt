@@ -9,7 +9,6 @@ ghost use Rattle.run_lines.specs.Number.{with_digit, with_digits, mark_number, f
 use sbr_grid::{FrameClass, SbrGrid, TimeGrid};
 use sbr_reader::Carried;
 use sbr_run::Place;
-use std::io;
 
 // A frame that is sent or read: its record, its time grid, and whether it begins on an attack.
 #[derive(Clone, Copy)]
@@ -34,19 +33,18 @@ impl Frame {
     }
 
     // Class, borders, noise borders, mark and resolutions.
-    pub fn print(&self, rt: &impl Print) -> io::Result<()> {
-        print!(rt; "{}", self.grid.frame_class)?;
-        case_io::print_times(rt, &self.time)?;
-        print!(rt; " / ")?;
+    pub fn print(&self, rt: &impl Print) {
+        let _ = print!(rt; "{}", self.grid.frame_class);
+        case_io::print_times(rt, &self.time);
+        let _ = print!(rt; " / ");
         case_io::print_resolutions(rt, &self.grid)
     }
 
     // Whether it begins on an attack.
-    pub fn print_begins(&self, rt: &impl Print) -> io::Result<()> {
+    pub fn print_begins(&self, rt: &impl Print) {
         if self.begins_on_attack {
-            print!(rt; " begins on an attack")?;
+            let _ = print!(rt; " begins on an attack");
         }
-        Ok(())
     }
 }
 
@@ -106,8 +104,8 @@ pub fn next_place(rt: &impl Input, has_flag: bool) -> Place {
 }
 
 // A position, a carried border and the flag beside it.
-pub fn print_place(rt: &impl Print, place: Place) -> io::Result<()> {
+pub fn print_place(rt: &impl Print, place: Place) {
     let Carried { border, attack } = place.carried;
     let attack = u8::from(attack);
-    print!(rt; " at {} border {border} attack {attack}", place.position)
+    let _ = print!(rt; " at {} border {border} attack {attack}", place.position);
 }
