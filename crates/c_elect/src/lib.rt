@@ -36,14 +36,12 @@ pub fn elect_grid(
     if !sbr_grid::is_slot_count(num_time_slots as usize) {
         return Err(Refusal::SlotCount);
     }
-    if 1 < variable_borders {
-        return Err(Refusal::Record);
-    }
+    let variable_borders = c_values::form::switch(variable_borders)?;
     let elected = sbr_encoder::elect_grid(
         samples,
         BandTables { high, low },
         previous_border,
-        variable_borders == 1,
+        variable_borders,
         num_time_slots as usize,
     )?;
     *transient = elected.transient as u32;

@@ -2,7 +2,6 @@
 #![tactic(auto)]
 
 ghost use Rattle.std.specs.Prelude.{length};
-ghost use Rattle.c_values.specs.Handed.{handed};
 ghost use Rattle.c_values.specs.Given.{Leaves};
 ghost use Rattle.c_energies.specs.Energies.{energy_call, energy_out};
 
@@ -16,23 +15,15 @@ pub fn estimate_envelopes(
     high: &[u8],
     low: &[u8],
     num_time_slots: u64,
-    frame_class: u32,
-    num_env: u64,
-    num_noise: u64,
+    handed: Handed,
     freq_res: &[u8],
-    var_bord_0: u8,
-    var_bord_1: u8,
     rel_bord_0: &[u8],
-    num_rel_0: u64,
     rel_bord_1: &[u8],
-    num_rel_1: u64,
-    pointer: u8,
     out: &mut [f64],
     count: &mut u64,
 ) -> Result<(), Refusal>
     ensures { Leaves
-        (energy_call num_time_slots high.now low.now samples.now
-        (handed frame_class num_env num_noise var_bord_0 var_bord_1 num_rel_0 num_rel_1 pointer)
+        (energy_call num_time_slots high.now low.now samples.now handed
         freq_res.now rel_bord_0.now rel_bord_1.now (length out.old))
         (energy_out out.old) (out.old, count.old)
         result (out.new, count.new) }
@@ -40,16 +31,6 @@ pub fn estimate_envelopes(
     if !sbr_grid::is_slot_count(num_time_slots as usize) {
         return Err(Refusal::SlotCount);
     }
-    let handed = Handed {
-        frame_class,
-        num_env,
-        num_noise,
-        var_bord_0,
-        var_bord_1,
-        num_rel_0,
-        num_rel_1,
-        pointer,
-    };
     let grid = c_values::form::form_record(handed, freq_res, rel_bord_0, rel_bord_1)?;
     let n = sbr_envelopes::estimate_envelopes(
         samples,

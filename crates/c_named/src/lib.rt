@@ -27,6 +27,7 @@ pub fn grid_for_borders(
     if !sbr_grid::is_slot_count(num_time_slots as usize) {
         return Err(Refusal::SlotCount);
     }
+    // C hands in no other count.
     let count = resolutions.len();
     if !c_values::form::is_flagged(resolutions, count) {
         return Err(Refusal::Record);

@@ -14,8 +14,6 @@ pub fn quantise_envelopes(energy: &[f64], amp_res: u32, out: &mut [u8]) -> Resul
         (quantise_out out.old) out.old
         result out.new }
 {
-    if 1 < amp_res {
-        return Err(Refusal::Record);
-    }
-    sbr_quantise::quantise_envelopes(energy, amp_res == 1, out)
+    let amp_res = c_values::form::switch(amp_res)?;
+    sbr_quantise::quantise_envelopes(energy, amp_res, out)
 }

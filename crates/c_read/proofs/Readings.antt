@@ -1,5 +1,6 @@
 -- What C is given of a reading.
 use Rattle.std.specs.Prelude.{Ok}
+use Rattle.std.proofs.lemmas.Bool.{and_parts}
 use mathlib.Core.Path.{◌≡◌, ap}
 use mathlib.Core.Bool.{Bool, true, false, cond}
 use mathlib.Core.List.{List}
@@ -13,7 +14,7 @@ use Rattle.sbr_grid.specs.Refusals.{result_map}
 use Rattle.sbr_grid.specs.Grid.{Grid, record_of}
 use Rattle.sbr_grid.proofs.Outcomes.{map_answered}
 use Rattle.sbr_writer.specs.Write.{writable}
-use Rattle.sbr_writer.proofs.Writable.{both, fields_told}
+use Rattle.sbr_writer.proofs.Writable.{fields_told}
 use Rattle.sbr_parse.specs.Inverse.{cleared}
 use Rattle.sbr_reader.specs.declared.FrameRead.{FrameRead}
 use Rattle.sbr_reader.specs.declared.Carried.{Carried}
@@ -35,7 +36,7 @@ noise_few g = one_or_two (ltb 1 (length g.freq_res))
 -- a record that can be written, with what its class does not send cleared, has small counts
 pub few_of : (g : Grid) → writable g ≡ true → cleared g ≡ g → Few (record_of g)
 few_of g fits clear =
-    let t = fields_told g (both _ _ fits).0 in
+    let t = fields_told g (and_parts _ _ fits).0 in
     record { env = t.most; noise = rw (ap (λ x. x.num_noise) clear) at (noise_few g); rel0 = t.rel0; rel1 = t.rel1 }
 
 module _ (l : List ℕ) (p n : ℕ) (c : Carried) (r : FrameRead) (e : Ok r ≡ result_map frame_read (read_grid l p n c)) where

@@ -52,9 +52,7 @@ pub fn send_frame(
     if !sbr_grid::is_slot_count(num_time_slots as usize) {
         return Err(Refusal::SlotCount);
     }
-    if variable_borders > 1 {
-        return Err(Refusal::Record);
-    }
+    let variable_borders = c_values::form::switch(variable_borders)?;
     let place = Place {
         // A turn does not look at the flag.
         carried: Carried::start(*border),
@@ -63,7 +61,7 @@ pub fn send_frame(
     let sending = sbr_run::send_frame(
         samples,
         BandTables { high, low },
-        variable_borders == 1,
+        variable_borders,
         num_time_slots as usize,
         bytes,
         place,

@@ -1,12 +1,12 @@
 -- Laws of the record that is formed of what C hands in.
 use Rattle.std.specs.Prelude.{Err, Ok}
 use mathlib.Core.Path.{◌≡◌, refl, sym}
-use mathlib.Core.Bool.{true, false, ◌&&◌}
+use mathlib.Core.Bool.{Bool, true, false, ◌&&◌}
 use mathlib.Core.List.{List}
 use Prim.Native.Nat.{ℕ, ◌%◌}
 use native.Mathlib.Omega.{arith}
 use borrow.Author.Tests.{leb-true}
-use lib.Dec.{leb}
+use lib.Dec.{leb, eqb}
 use lib.ListN.{length}
 use Rattle.sbr_grid.specs.declared.FrameClass.{FrameClass}
 use Rattle.sbr_grid.specs.declared.Refusal.{Refusal}
@@ -14,7 +14,11 @@ use Rattle.sbr_grid.specs.declared.Refusal.TheVariants.{Record}
 use Rattle.sbr_grid.specs.Grid.{class_of, class_with_code}
 use Rattle.sbr_grid.proofs.Outcomes.{unless_refused, unless_answered}
 use Rattle.c_values.specs.declared.form.Handed.{Handed}
-use Rattle.c_values.specs.Handed.{formed}
+use Rattle.c_values.specs.Handed.{formed, forming}
+
+-- a switch that is taken is 0 or 1, and on where it is 1
+pub switched : (n : ℕ) (b : Bool) → Ok b ≡ forming (leb n 1) (Ok (eqb n 1)) → (leb n 1 ≡ true) × (b ≡ eqb n 1)
+switched n b k = let t = unless_answered (leb n 1) Record (Ok (eqb n 1)) (sym k) in let c = t.1 in (t.0, cc)
 
 module _ (h : Handed) (rel0 rel1 : List ℕ) where
   -- a class that is refused, by 5

@@ -9,7 +9,7 @@ use sbr_grid::{FrameClass, Refusal, SbrGrid};
 
 const MAX_FLAG: u8 = 1;
 
-// The numbers of a record as C hands them in. Class and counts are wider than a record needs: nothing is cut before its test.
+// The numbers of a record as C hands them in, held together. Class and counts are wider than a record needs: nothing is cut before its test.
 #[derive(Clone, Copy)]
 pub struct Handed {
     pub frame_class: u32,
@@ -123,4 +123,14 @@ pub fn form_borders(h: Handed, rel_bord_0: &[u8], rel_bord_1: &[u8]) -> Result<S
         (Ok (grid_from h [] rel_bord_0.now rel_bord_1.now))) }
 {
     record(h, &[], rel_bord_0, rel_bord_1)
+}
+
+// A switch of C: 0 or 1; refused by 5 above 1.
+pub fn switch(number: u32) -> Result<bool, Refusal>
+    ensures { result ≡ forming (leb number 1) (Ok (eqb number 1)) }
+{
+    if 1 < number {
+        return Err(Refusal::Record);
+    }
+    Ok(number == 1)
 }

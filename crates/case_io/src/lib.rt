@@ -159,9 +159,9 @@ pub fn each_case<F: Fn(u32)>(rt: &impl Input, size: usize, print_case: F)
     }
 }
 
-// A letter for each of the envelopes.
-pub fn print_resolutions(rt: &impl Print, grid: &SbrGrid) {
-    for high in &grid.freq_res[..grid.num_env.min(SbrGrid::MAX_NUM_ENV)] {
+// A letter for each resolution.
+pub fn print_resolutions(rt: &impl Print, resolutions: &[bool]) {
+    for high in resolutions {
         let _ = print!(rt; "{}", if *high { 'H' } else { 'L' });
     }
 }
@@ -176,7 +176,7 @@ fn print_numbers<T: Display>(rt: &impl Print, numbers: &[T]) {
 // Class, resolutions, border bytes, lengths of both sides, pointer, noise floors and override. Of a count that is too large the whole list is printed.
 pub fn print_grid(rt: &impl Print, grid: &SbrGrid) {
     let _ = print!(rt; "{} ", grid.frame_class);
-    print_resolutions(rt, grid);
+    print_resolutions(rt, &grid.freq_res[..grid.num_env.min(SbrGrid::MAX_NUM_ENV)]);
     let _ = print!(rt; " b0 {} b1 {} rel0", grid.var_bord_0, grid.var_bord_1);
     print_numbers(
         rt,

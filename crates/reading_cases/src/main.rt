@@ -9,16 +9,16 @@ fn print_reading(rt: &(impl Input + Print), bytes: &[u8], from: Place) -> Place 
     let num_time_slots = case_io::next_size(rt);
     let lent = case_io::next_count(rt, bytes.len());
     let place = match sbr_run::receive_frame(&bytes[..lent], num_time_slots, from) {
-        Ok(receiving) => {
+        Ok(read) => {
             let frame = Frame {
-                grid: receiving.grid,
-                time: receiving.time,
-                begins_on_attack: receiving.begins_on_attack,
+                grid: read.grid,
+                time: read.time,
+                begins_on_attack: read.begins_on_attack,
             };
             let _ = print!(rt; "read ");
             frame.print(rt);
             frame.print_begins(rt);
-            receiving.place
+            Place::from(read)
         }
         Err(why) => {
             let _ = print!(rt; "reading ");

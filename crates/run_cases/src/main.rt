@@ -44,23 +44,17 @@ struct Run<'a> {
 }
 
 impl Run<'_> {
-    // How many numbers the rows of a frame hold; MAX_ROOM + 1 where the energies are refused.
-    fn rows(&self, x: &[f64], grid: SbrGrid, num_time_slots: usize) -> usize {
+    // How many numbers the rows of a frame hold; nothing where the energies are refused.
+    fn rows(&self, x: &[f64], grid: SbrGrid, num_time_slots: usize) -> Option<usize> {
         let mut out = [0.0; MAX_ROOM];
-        let count = sbr_envelopes::estimate_envelopes(
-            x,
-            self.tables,
-            grid,
-            num_time_slots,
-            &mut out,
-        );
-        count.unwrap_or(MAX_ROOM + 1)
+        sbr_envelopes::estimate_envelopes(x, self.tables, grid, num_time_slots, &mut out).ok()
     }
 
-    // A frame, how many numbers its rows hold, and whether it begins on an attack.
+    // A frame, how many numbers its rows hold (MAX_ROOM + 1 where the energies are refused), and whether it begins on an attack.
     fn print_frame(&self, rt: &impl Print, frame: &Frame, x: &[f64], num_time_slots: usize) {
+        let rows = self.rows(x, frame.grid, num_time_slots);
         frame.print(rt);
-        let _ = print!(rt; " rows {}", self.rows(x, frame.grid, num_time_slots));
+        let _ = print!(rt; " rows {}", rows.unwrap_or(MAX_ROOM + 1));
         frame.print_begins(rt)
     }
 
@@ -112,17 +106,17 @@ impl Run<'_> {
     fn reading(&mut self, rt: &(impl Input + Print), bytes: &[u8]) {
         let num_time_slots = case_io::next_size(rt);
         match sbr_run::receive_frame(bytes, num_time_slots, self.receiver) {
-            Ok(receiving) => {
-                self.receiver = receiving.place;
+            Ok(read) => {
+                self.receiver = Place::from(read);
                 let frame = Frame {
-                    grid: receiving.grid,
-                    time: receiving.time,
-                    begins_on_attack: receiving.begins_on_attack,
+                    grid: read.grid,
+                    time: read.time,
+                    begins_on_attack: read.begins_on_attack,
                 };
                 let silence = [0.0; case_io::MAX_SAMPLES];
                 let _ = print!(rt; "read ");
                 self.print_frame(rt, &frame, &silence, num_time_slots);
-                run_lines::print_place(rt, receiving.place);
+                run_lines::print_place(rt, self.receiver);
                 self.compare(rt, &frame);
             }
             Err(why) => {

@@ -37,7 +37,8 @@ impl Frame {
         let _ = print!(rt; "{}", self.grid.frame_class);
         case_io::print_times(rt, &self.time);
         let _ = print!(rt; " / ");
-        case_io::print_resolutions(rt, &self.grid)
+        let num_env = self.grid.num_env.min(SbrGrid::MAX_NUM_ENV);
+        case_io::print_resolutions(rt, &self.grid.freq_res[..num_env])
     }
 
     // Whether it begins on an attack.
@@ -65,16 +66,11 @@ fn with_digits(number: u64, borders: &[u32]) -> u64
     )
 }
 
-// Resolutions in a number, a bit for each. No fold: nothing would bound its total.
-#[tactic(auto, using(crate::proofs::Numbers::five_bits))]
+// Resolutions in a number, a bit for each.
 fn resolutions_number(freq_res: [bool; SbrGrid::MAX_NUM_ENV]) -> u64
     ensures { result ≡ num_of freq_res }
 {
-    16 * u64::from(freq_res[0])
-        + 8 * u64::from(freq_res[1])
-        + 4 * u64::from(freq_res[2])
-        + 2 * u64::from(freq_res[3])
-        + u64::from(freq_res[4])
+    freq_res.iter().fold(0, |v, f| v << 1 | u64::from(*f))
 }
 
 // The marked envelope in a number.

@@ -1,3 +1,2 @@
-pub mod FitCounts
 pub mod Shifts
 pub mod Walks

@@ -2,7 +2,7 @@
 use mathlib.Core.Path.{◌≡◌, refl, sym, ap, ◌∙◌}
 use mathlib.Core.Bool.{true, false}
 use mathlib.Core.List.{List, [], ◌∷◌, ◌++◌, append_assoc, append-nil}
-use Prim.Native.Nat.{ℕ, zero, suc, ◌+◌, ◌*◌, ◌≤◌, ◌<◌}
+use Prim.Native.Nat.{ℕ, ◌+◌, ◌*◌, ◌≤◌, ◌<◌}
 use Rattle.std.proofs.lemmas.Bool.Decides.{nat_tests}
 use native.Mathlib.Omega.{arith}
 use native.Mathlib.Numerals.{add-one}
@@ -13,7 +13,7 @@ use Rattle.std.specs.Prelude.{zip, sum_by, Option, Some, None}
 use Rattle.std.specs.List.{list_all}
 use Rattle.std.specs.Prelude.{leb}
 use Rattle.std.proofs.lemmas.List.Folds.{list_all-append}
-use Rattle.std.proofs.lemmas.List.{at_drop_more}
+use Rattle.std.proofs.lemmas.List.{at_drop_more, get_or_default}
 use Rattle.std.proofs.lemmas.List.Sums.{sum_by-cons}
 use Rattle.sbr_grid.specs.Grid.{first}
 use Rattle.sbr_grid.proofs.First.{first-length, first-get_or, first-drop, first_taken, first-set, first_push}
@@ -28,16 +28,10 @@ no_border = record { slot = 0; onset = false }
 pub first_count : (n : ℕ) (bs l : List WantedBorder) → l ≡ first (onset_at 0) n bs → length l ≡ n
 first_count n bs l e = ap length e ∙ first-length (onset_at 0) n bs
 
--- an element of a list is the same with any default
-get_d_any : {A : Type 0} (d e : A) (l : List A) (i : ℕ) → i < length l → get_or l i d ≡ get_or l i e
-get_d_any d e [] i h = absurd (omega arith)
-get_d_any d e (x ∷ l) zero h = refl
-get_d_any d e (x ∷ l) (suc i) h = get_d_any d e l i (omega arith)
-
 -- a border of such an array
 pub border_is : (d : WantedBorder) (n i : ℕ) (bs l : List WantedBorder) → l ≡ first (onset_at 0) n bs → i < length l → get_or l i d ≡ get_or bs i (onset_at 0)
 border_is d n i bs l e h =
-    get_d_any d (onset_at 0) l i h ∙ ap (λ m. get_or m i (onset_at 0)) e ∙ first-get_or (onset_at 0) n i bs (omega (arith, first_count n bs l e))
+    get_or_default l i d (onset_at 0) h ∙ ap (λ m. get_or m i (onset_at 0)) e ∙ first-get_or (onset_at 0) n i bs (omega (arith, first_count n bs l e))
 
 -- one place more, where the places so far and those of the other borders are r
 pub places_more : (d : WantedBorder) (ws : List WantedBorder) (is out more r : List ℕ) (i v : ℕ) → i < length ws → i < length is → more ≡ out ++ (v ∷ [])

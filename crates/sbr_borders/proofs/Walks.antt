@@ -6,9 +6,10 @@ use Prim.Native.Nat.{ℕ, suc, ◌+◌, ◌-◌, ◌≤◌, ◌<◌}
 use borrow.Author.Tests.{lt-ltb, le-ltb, le-leb}
 use native.Mathlib.Omega.{arith}
 use lib.ListN.{length, take, drop, get_or, drop_of_length-le}
+use Rattle.std.specs.Option.{unwrap_or}
+use Rattle.std.specs.List.{slice_get}
 use Rattle.std.proofs.lemmas.List.{at_drop_more, reverse-append}
 use Rattle.std.specs.List.{list_all}
-use Rattle.std.specs.Prelude.{slice_index}
 use Rattle.sbr_borders.specs.Borders.{rises_from, last_or, steps_up, steps_down, even_ok, all_even, reaches}
 
 -- rising borders, the first of those that are left above p
@@ -39,14 +40,17 @@ unfolding reaches
 reaches_by lead t k bs ups downs r h i j u e d f =
     rw (← u, ← d, le-leb k 3 h, le-leb k (length bs) i, le-leb (length bs - k) 3 j, ← all_even_is ups, e) (f ∙ all_even_is downs)
 
--- the last border
-pub last_is : (p : ℕ) (bs : List ℕ) → 1 ≤ length bs → slice_index bs (length bs - 1) ≡ last_or p bs
+-- the last border of a list that begins with b
+last_at : (p b : ℕ) (bs : List ℕ) → unwrap_or (slice_get (b ∷ bs) (length bs)) p ≡ last_or b bs
 unfolding last_or
-last_is p [] h = absurd (omega arith)
-last_is p (b ∷ []) h = refl
-last_is p (b ∷ c ∷ bs) h =
-    let e : suc (suc (length bs)) - 1 ≡ suc (suc (length bs) - 1) = omega arith in
-    rw e (last_is b (c ∷ bs) (omega arith))
+last_at p b [] = refl
+last_at p b (c ∷ bs) = last_at p c bs
+
+-- the last border, or p where there is none
+pub last_is : (p : ℕ) (bs : List ℕ) → unwrap_or (slice_get bs (length bs - 1)) p ≡ last_or p bs
+unfolding last_or
+last_is p [] = refl
+last_is p (b ∷ bs) = let e : suc (length bs) - 1 ≡ length bs = omega arith in rw e (last_at p b bs)
 
 -- one step more of those up
 pub up_more : (p d : ℕ) (out more r bs : List ℕ) (i : ℕ) → i < length bs → more ≡ out ++ (d ∷ []) → d ≡ get_or bs i 0 - p → out ++ steps_up p (drop i bs) ≡ r

@@ -1,5 +1,6 @@
 -- Wanted borders, their shifts, and the even lengths that reach them: `varvar_from_borders` of src/sbr_encoder.rs, docs/ORDER.md, BS.
-use Rattle.std.specs.Prelude.{Bool, true, cond, ◌&&◌, ◌||◌, List, [], ◌∷◌, reverse, ℕ, zero, suc, ◌+◌, ◌-◌, ◌%◌, leb, ltb, eqb, length, take, drop, Option, Some, None}
+use Rattle.std.specs.Prelude.{Bool, true, cond, ◌&&◌, ◌||◌, List, [], ◌∷◌, reverse, ℕ, ◌+◌, ◌-◌, ◌%◌, leb, ltb, eqb, length, take, drop, Option, Some, None}
+use Rattle.std.specs.List.{find, range_with_len}
 use Rattle.sbr_borders.specs.declared.WantedBorder.{WantedBorder}
 
 -- ---- wanted borders and their shifts
@@ -73,10 +74,9 @@ unfoldable pub reaches : ℕ → ℕ → ℕ → List ℕ → Bool
 reaches lead t k bs =
     leb k 3 && leb k (length bs) && leb (length bs - k) 3 && all_even (leading_steps lead k bs) && all_even (trailing_steps t k bs)
 
--- the first of the counts k, k + 1, .. of leading lengths, j of them, that reaches every border
-unfoldable pub fit : ℕ → ℕ → ℕ → ℕ → List ℕ → Option ℕ
-fit zero k lead t bs = None
-fit (suc j) k lead t bs = cond (reaches lead t k bs) (Some k) (fit j (suc k) lead t bs)
+-- the least of the counts 0 to 3 of leading lengths that reaches every border
+abbrev pub fit : ℕ → ℕ → List ℕ → Option ℕ
+fit lead t bs = find (λ k. reaches lead t k bs) (range_with_len 0 4)
 
 -- the border wanted for an onset
 abbrev pub onset_at : ℕ → WantedBorder

@@ -19,7 +19,7 @@ pub struct WantedBorder {
 }
 
 // The wanted borders, the first `count` places.
-// An array and its count, since the memory is fixed; `borders` hands out the slice.
+// An array and its count, and no `Slots`, whose view forgets the places behind the count: this is `Copy`. `borders` hands out the slice.
 #[derive(Clone, Copy)]
 pub struct Wanted {
     pub count: usize,
@@ -65,7 +65,8 @@ fn shift_count(b: WantedBorder) -> u32
     if b.onset { 2 } else { 3 }
 }
 
-// Where a shift puts a border: 0 leaves it, 1 is one slot earlier, and 2, which only the isolating border has, one slot later.
+// Where a shift puts a border: 0 leaves it, 1 is one slot earlier, and 2, which only the isolating border has, one slot later. A shift is a number:
+// `next_shifts` counts them.
 fn placed(b: WantedBorder, shift: u32) -> u32
     requires { (1 ≤ b.slot) × (b.slot ≤ 32) }
     ensures { (result ≡ place b shift) × (result ≤ 33) }
@@ -92,7 +93,7 @@ fn priced(b: WantedBorder, shift: u32) -> u32
     }
 }
 
-// The prices of shifts of at most four borders, added.
+// The prices of shifts of at most four borders, added. The bound stands in three contracts: a slice has none, and `Wanted` asks for more.
 fn total_price(wanted: &[WantedBorder], shifts: &[u32]) -> u32
     requires { length wanted.now ≤ 4 }
     ensures { result ≡ sum_by (λ p. price p.0 p.1) (zip wanted.now shifts.now) }
@@ -162,10 +163,10 @@ fn all_even(lengths: &[u32]) -> bool
 
 // The first k borders are reached by leading lengths and the others by trailing ones.
 #[tactic(auto, using(crate::proofs::Walks::all_even_is), unfolding(crate::specs::Borders::reaches))]
-fn reaches(lead: u32, t: u32, k: usize, borders: &[u32]) -> bool
-    requires { length borders.now ≤ 4 }
+fn reaches(lead: u32, t: u32, k: usize, borders: &Slots<u32>) -> bool
     ensures { result ≡ reaches lead t k borders.now }
 {
+    let borders = borders.as_slice();
     let max = SbrGrid::MAX_SIDE_REL;
     if max < k || borders.len() < k || max < borders.len() - k {
         return false;
@@ -176,25 +177,17 @@ fn reaches(lead: u32, t: u32, k: usize, borders: &[u32]) -> bool
 }
 
 // The least count of leading lengths with which every border is reached.
-pub fn fitting(lead: u32, t: u32, borders: &[u32]) -> Option<usize>
-    requires { length borders.now ≤ 4 }
-    ensures { result ≡ fit 4 0 lead t borders.now }
+pub fn fitting(lead: u32, t: u32, borders: &Slots<u32>) -> Option<usize>
+    ensures { result ≡ fit lead t borders.now }
 {
-    for k in 0..=SbrGrid::MAX_SIDE_REL {
-        if reaches(lead, t, k, borders) {
-            return Some(k);
-        }
-    }
-    None
+    (0..SbrGrid::MAX_SIDE_REL + 1).find(|k| reaches(lead, t, *k, borders))
 }
 
-// The last border.
-#[tactic(auto, using(crate::proofs::Walks::last_is))]
-pub fn last_border(borders: &[u32]) -> u32
-    requires { 1 ≤ length borders.now }
-    ensures { (lead : ℕ) → result ≡ last_or lead borders.now }
+// The last border; the lead where there is none.
+pub fn last_border(lead: u32, borders: &[u32]) -> u32
+    ensures { result ≡ last_or lead borders.now }
 {
-    borders[borders.len() - 1]
+    borders.last().copied().unwrap_or(lead)
 }
 
 // The lengths from the lead up through the borders.

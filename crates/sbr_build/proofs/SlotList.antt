@@ -1,36 +1,25 @@
 -- One number more in an array of slots with its count.
-use mathlib.Core.Path.{◌≡◌, refl, sym, ap, ◌∙◌}
+use mathlib.Core.Path.{◌≡◌, sym, ap, ◌∙◌}
 use mathlib.Core.List.{List, [], ◌∷◌, ◌++◌}
-use Prim.Native.Nat.{ℕ, zero, suc, ◌+◌, ◌≤◌, ◌<◌}
+use Prim.Native.Nat.{ℕ, ◌+◌, ◌≤◌, ◌<◌}
 use native.Mathlib.Omega.{arith}
 use native.Mathlib.Numerals.{add-one}
 use lib.ListN.{length, length-map, set, take}
+use lib.Seq.{length-take-le, take-suc-set}
 use Rattle.std.specs.Prelude.{map}
 use Rattle.sbr_grid.specs.Grid.{first}
 use Rattle.sbr_grid.proofs.First.{first_take, first-length, first-first}
 
 module _ {A : Type 0} where
-  -- n items are as many
-  length-front : (n : ℕ) (xs : List A) → n ≤ length xs → length (take n xs) ≡ n
-  length-front zero xs h = refl
-  length-front (suc n) [] h = absurd (omega arith)
-  length-front (suc n) (x ∷ xs) h = ap suc (length-front n xs (omega arith))
-
-  -- one more item
-  front-set : (n : ℕ) (xs : List A) (x : A) → n < length xs → take (suc n) (set xs n x) ≡ take n xs ++ (x ∷ [])
-  front-set n [] x h = absurd (omega arith)
-  front-set zero (y ∷ xs) x h = refl
-  front-set (suc n) (y ∷ xs) x h = ap {B = List A} (λ t. y ∷ t) (front-set n xs x (omega arith))
-
   -- the array of a list, and one number more behind it
   pub first_with : (n : ℕ) (slots l : List A) (x : A) → n ≤ length slots → take n slots ≡ l → length l < length slots → take (n + 1) (set slots n x) ≡ l ++ (x ∷ [])
   first_with n slots l x k e h =
-      let m : n < length slots = omega (arith, length-front n slots k, ap length e) in
-      rw (add-one n) (front-set n slots x m ∙ ap (λ t. t ++ (x ∷ [])) e)
+      let m : n < length slots = omega (arith, length-take-le n slots k, ap length e) in
+      rw (add-one n) (take-suc-set slots n x m ∙ ap (λ t. t ++ (x ∷ [])) e)
 
   -- an array with a count of at most four holds at most four
   pub first_few : (n : ℕ) (slots l : List A) → n ≤ 4 → length slots ≡ 4 → take n slots ≡ l → length l ≤ 4
-  first_few n slots l h k e = omega (arith, length-front n slots (omega arith), ap length e)
+  first_few n slots l h k e = omega (arith, length-take-le n slots (omega arith), ap length e)
 
   -- the array of at most four numbers holds them
   pub first_of : (d : A) (n : ℕ) (slots l : List A) → n ≡ length l → slots ≡ first d 4 l → length l ≤ 4 → take n slots ≡ l

@@ -18,7 +18,7 @@ pub struct Frame {
 }
 
 // The onset slots of a frame, the first `count` places.
-// An array and its count, since the memory is fixed; `slots` hands out the slice.
+// An array and its count, and no `Slots`, whose view forgets the places behind the count: this is `Copy`. `slots` hands out the slice.
 #[derive(Clone, Copy)]
 pub struct Onsets {
     pub count: usize,
@@ -40,7 +40,7 @@ impl Onsets {
     }
 }
 
-// At most four numbers of slots, as lengths or borders; contracts see their list.
+// At most four numbers of slots, as lengths or borders; contracts see their list. No library type: the sealed program stands on none.
 #[derive(Drop)]
 pub struct Slots<T> {
     count: usize,
@@ -152,7 +152,7 @@ pub fn grid_of(
     rel_1: &[u8],
     pointer: u8,
 ) -> SbrGrid
-    requires { (num_env ≤ 5) × (length rel_0.now ≤ 4) × (length rel_1.now ≤ 4) }
+    requires { (length rel_0.now ≤ 4) × (length rel_1.now ≤ 4) }
     ensures { result ≡ record_of (grid_of class num_env high lead over rel_0.now rel_1.now pointer) }
 {
     SbrGrid {
@@ -174,7 +174,6 @@ pub fn grid_of(
 // A FixFix grid of num_env envelopes at one resolution.
 #[tactic(auto, unfolding(crate::specs::Build::fixfix_grid))]
 pub fn fixfix_grid(num_env: usize, high: bool) -> SbrGrid
-    requires { num_env ≤ 5 }
     ensures { result ≡ record_of (fixfix_grid num_env high) }
 {
     grid_of(FrameClass::FixFix, num_env, high, 0, 0, &[], &[], 0)
@@ -210,11 +209,12 @@ fn share(left: u8, remaining: u8) -> u8
 
 // The lengths that num_env envelopes write down of `span` slots.
 fn shared(num_env: usize, span: u8) -> Slots<u8>
-    requires { (1 ≤ num_env) × (num_env ≤ 4) }
-    ensures { (result ≡ shares num_env span) × (length result < num_env) }
+    requires { num_env ≤ 5 }
+    ensures { (result ≡ shares num_env span) × (length result ≤ num_env - 1) }
 {
     let mut rel = Slots::new();
     let mut left = span;
+    // A share is made by the number of envelopes that are left.
     for remaining in (2..=num_env).rev() {
         let len = share(left, remaining as u8);
         if left <= len {

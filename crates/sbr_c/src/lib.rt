@@ -1,6 +1,6 @@
 // The calls of the C firmware: plain numbers and ranges of bytes, in and out. Each answers 0, or the number of a refusal, and a
 // refused call leaves everything that was lent as it was. What they do stands in c_bits, c_read, c_elect,
-// c_energies, c_quantise, c_named and c_send.
+// c_energies, c_quantise, c_named and c_send. C hands every number of a record in by itself: `Handed` holds them together.
 #![tactic(auto, using(c_values::proofs::Answers::gives))]
 
 ghost use Rattle.std.specs.Prelude.{length};
@@ -15,6 +15,7 @@ ghost use Rattle.c_quantise.specs.Quantise.{quantise_call, quantise_out};
 ghost use Rattle.c_named.specs.Named.{named_call};
 ghost use Rattle.c_send.specs.Turns.{send_call, send_out};
 
+use c_values::form::Handed;
 use c_values::give::{NUMBERS, code_of};
 use sbr_grid::{SbrGrid, TimeGrid};
 
@@ -43,16 +44,19 @@ pub extern "C" fn sbr_write_grid(
     code_of(c_bits::write_grid(
         bytes,
         position,
-        frame_class,
-        num_env,
+        Handed {
+            frame_class,
+            num_env,
+            num_noise: 0,
+            var_bord_0,
+            var_bord_1,
+            num_rel_0,
+            num_rel_1,
+            pointer,
+        },
         freq_res,
-        var_bord_0,
-        var_bord_1,
         rel_bord_0,
-        num_rel_0,
         rel_bord_1,
-        num_rel_1,
-        pointer,
     ))
 }
 
@@ -82,16 +86,18 @@ pub extern "C" fn sbr_derive_time_grid(
 {
     code_of(c_bits::derive_time_grid(
         num_time_slots,
-        frame_class,
-        num_env,
-        num_noise,
-        var_bord_0,
-        var_bord_1,
+        Handed {
+            frame_class,
+            num_env,
+            num_noise,
+            var_bord_0,
+            var_bord_1,
+            num_rel_0,
+            num_rel_1,
+            pointer,
+        },
         rel_bord_0,
-        num_rel_0,
         rel_bord_1,
-        num_rel_1,
-        pointer,
         t_e,
         t_q,
         l_a,
@@ -226,17 +232,19 @@ pub extern "C" fn sbr_estimate_envelopes(
         high,
         low,
         num_time_slots,
-        frame_class,
-        num_env,
-        num_noise,
+        Handed {
+            frame_class,
+            num_env,
+            num_noise,
+            var_bord_0,
+            var_bord_1,
+            num_rel_0,
+            num_rel_1,
+            pointer,
+        },
         freq_res,
-        var_bord_0,
-        var_bord_1,
         rel_bord_0,
-        num_rel_0,
         rel_bord_1,
-        num_rel_1,
-        pointer,
         out,
         count,
     ))

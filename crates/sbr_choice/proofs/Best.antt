@@ -1,6 +1,7 @@
 -- The search answers the plan that comes first among all plans, and none exactly where there is no plan.
 use Rattle.std.specs.Prelude.{Ok, Err, Option, Some, None}
-use mathlib.Core.Path.{◌≡◌, refl, subst, sym}
+use Rattle.std.proofs.lemmas.Float.{T_from_true}
+use mathlib.Core.Path.{◌≡◌, refl}
 use Prim.Native.Nat.{ℕ, suc, ◌+◌, ◌-◌, ◌≤◌}
 use native.Mathlib.Omega.{arith}
 use mathlib.Core.Bool.{Bool, true, false, cond, ◌&&◌}
@@ -122,9 +123,6 @@ all_both =
 
 -- ---- from the test to each plan
 
-holds : (b : Bool) → b ≡ true → T b
-holds b e = subst T (sym e) tt
-
 at_shifts : (ws : List WantedBorder) (f : List ℕ → Bool) → T (all_shifts ws f) → (is : List ℕ) → Shifts ws is → T (f is)
 at_shifts [] f t [] h = t
 at_shifts [] f t (i ∷ is) h = absurd h
@@ -154,10 +152,10 @@ at_plans n lead ws f t p h =
     let r = rises_from lead bs in
     let l = ltb (last_or lead bs) (n + p.over) in
     let e = reaches lead (n + p.over) p.leading bs in
-    let he = holds e h.reached in
+    let he = T_from_true e h.reached in
     implied e (f p) (at_from (λ k. implies (reaches lead (n + p.over) k bs) (f (record { shifts = is; over = p.over; leading = k }))) 4 0
     (implied l _ (at_from (λ over. implies (ltb (last_or lead bs) (n + over)) (all_from 0 4 (λ k. implies (reaches lead (n + over) k bs) (f (record { shifts = is; over = over; leading = k }))))) 4 0
-    (implied r (plans_for n lead is bs f) (at_shifts ws (shifts_for n lead ws f) t is h.shifted) (holds r h.rising))
+    (implied r (plans_for n lead is bs f) (at_shifts ws (shifts_for n lead ws f) t is h.shifted) (T_from_true r h.rising))
     p.over (omega arith) (omega (arith, h.near))) (le→leb (suc (last_or lead bs)) (n + p.over) h.below))
     p.leading (omega arith) (omega (arith, sides lead (n + p.over) p.leading bs he))) he
 

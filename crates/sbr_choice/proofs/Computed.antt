@@ -11,7 +11,7 @@ use Rattle.sbr_borders.specs.declared.WantedBorder.{WantedBorder}
 use Rattle.sbr_build.specs.Build.{fixfix_grid, varvar_grid, shares, varfix_plain}
 use Rattle.sbr_attack.specs.Attack.{segments_by, late_attack_varvar, double_attack_grid, fixvar_segs, varfix_segs, fixvar_grid, varfix_grid, variable_grid}
 use Rattle.sbr_search.specs.Search.{try_ends, try_shifts, try_from, Best, search, multi_onset_grid}
-use Rattle.sbr_borders.specs.Borders.{places, prices, next_shifts, rises_from, last_or, steps_up, steps_down, all_even, reaches, fit}
+use Rattle.sbr_borders.specs.Borders.{places, prices, next_shifts, rises_from, last_or, steps_up, steps_down, all_even, reaches}
 use Rattle.sbr_choice.specs.Choice.{attack_grid, plain_grid, chosen_grid}
 
 unfoldable pub times_of : ℕ → Grid → Outcome Times
@@ -19,7 +19,7 @@ unfolding time_grid is_slot_count counts_fit borders_fit noise_fits abs_bord_lea
 times_of n g = time_grid n g
 
 unfoldable pub searched : ℕ → ℕ → List WantedBorder → Option Best
-unfolding places prices next_shifts rises_from last_or steps_up steps_down all_even reaches fit try_ends try_shifts try_from search
+unfolding places prices next_shifts rises_from last_or steps_up steps_down all_even reaches try_ends try_shifts try_from search
 searched n lead ws = search n lead ws
 
 unfoldable pub chosen_of : Bool → Bool → List ℕ → ℕ → ℕ → Grid

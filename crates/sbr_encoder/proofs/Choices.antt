@@ -20,7 +20,8 @@ use Rattle.sbr_grid.proofs.Laws.{view_record}
 use Rattle.sbr_grid.specs.Times.{Times, is_slot_count}
 use Rattle.sbr_time_grid.specs.TimeGrid.{time_grid}
 use Rattle.sbr_writer.specs.Write.{fields_fit_of, class_fits}
-use Rattle.sbr_writer.proofs.Writable.{both, fields_told}
+use Rattle.std.proofs.lemmas.Bool.{and_parts}
+use Rattle.sbr_writer.proofs.Writable.{fields_told}
 use Rattle.sbr_qmf.specs.Qmf.{SampleAt, columns, samples_needed}
 use Rattle.sbr_energy.specs.Energy.{slot_energy, slot_energies}
 use Rattle.sbr_bands.specs.Tables.{entry, last_entry, tables_fit}
@@ -80,7 +81,7 @@ planned x high low n previous variable e r transient slots q p t =
     let c = frame_case n previous by slots in
     let s = chosen_is_sound variable (halves_alike by n) n (lead_for n previous) (onsets_for by n) c in
     let k = chosen_kept variable (halves_alike by n) n (lead_for n previous) (onsets_for by n) c in
-    let f = fields_told g (both (fields_fit_of g) (class_fits g.frame_class g) k.fits).0 in
+    let f = fields_told g (and_parts (fields_fit_of g) (class_fits g.frame_class g) k.fits).0 in
     let rg : r ≡ record_of g = p ∙ (λ i. record_of (chosen_grid variable (hs i) (os i) (lead_for n previous) n)) in
     let v : view_of r ≡ g = ap view_of rg ∙ view_record g f.most f.rel0 f.rel1 in
     record {

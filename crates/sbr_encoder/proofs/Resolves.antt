@@ -21,10 +21,6 @@ use Rattle.sbr_resolution.specs.Resolution.{elect_freq_res}
 use Rattle.sbr_means.proofs.Spans.{mapped_length}
 use Rattle.sbr_encoder.specs.Election.{with_freq_res, resolved}
 
--- the entry of FixFix
-by_fix : {A : Type 0} (k : FrameClass) (a b : A) → k ≡ FixFix → by_class k a b b b ≡ a
-by_fix k a b e = rw e
-
 -- the entry of each other class, where they have the same
 by_other : {A : Type 0} (k : FrameClass) (a b : A) → (k ≡ FixFix → ⊥) → by_class k a b b b ≡ b
 by_other FixFix a b h = absurd (h refl)
@@ -33,10 +29,6 @@ by_other VarFix a b h = refl
 by_other VarVar a b h = refl
 
 module _ (x : SampleAt) (high low : List ℕ) (grid : SbrGrid) (t : Times) (same : record_of (view_of grid) ≡ grid) where
-  -- FixFix keeps its record
-  pub keeps : grid.frame_class ≡ FixFix → grid ≡ record_of (resolved x high low (view_of grid) t)
-  keeps e = sym (ap record_of (by_fix grid.frame_class (view_of grid) _ e) ∙ same)
-
   -- in each other class the resolutions are elected
   pub elects : (r : List Bool) → (grid.frame_class ≡ FixFix → ⊥) → length t.t_e ≡ grid.num_env + 1 → r ≡ first false 5 (map (elect_freq_res x high low) (spans t.t_e))
       → record {

@@ -26,19 +26,27 @@ pub struct Election {
     pub transient: bool,
 }
 
+// What the tests of a call leave: a slot count, and samples of its slots and of the 8 behind them.
+#[derive(Clone, Copy)]
+struct Tested<'a> {
+    samples: FrameSamples<'a>,
+    num_time_slots: usize,
+    ghost counted: { is_slot_count num_time_slots ≡ true },
+    ghost framed: { samples.slots ≡ num_time_slots + 8 },
+}
+
 // The grid with the elected resolutions; FixFix keeps its own.
-fn resolved(samples: FrameSamples, grid: SbrGrid, num_time_slots: usize) -> SbrGrid
+fn resolved(frame: Tested, grid: SbrGrid) -> SbrGrid
     requires whole { record_of (view_of grid) ≡ grid }
-    requires timed { (t : Times) × (time_grid num_time_slots (view_of grid) ≡ Ok t) }
-    requires slots { samples.slots ≡ num_time_slots + 8 }
-    ensures { (t : Times) → time_grid num_time_slots (view_of grid) ≡ Ok t → result ≡ record_of (resolved (columns samples.entry.x.now) samples.entry.tables.high.now samples.entry.tables.low.now (view_of grid) t) }
+    requires timed { (t : Times) × (time_grid frame.num_time_slots (view_of grid) ≡ Ok t) }
+    ensures { (t : Times) → time_grid frame.entry.num_time_slots (view_of grid) ≡ Ok t → result ≡ record_of (resolved (columns frame.entry.samples.x.now) frame.entry.samples.tables.high.now frame.entry.samples.tables.low.now (view_of grid) t) }
 {
     match grid.frame_class {
         FrameClass::FixFix => grid,
         _ => {
-            let time = sbr_time_grid::derive_time_grid(grid, num_time_slots).unwrap();
+            let time = sbr_time_grid::derive_time_grid(grid, frame.num_time_slots).unwrap();
             SbrGrid {
-                freq_res: samples.resolutions(time.borders()),
+                freq_res: frame.samples.resolutions(time.borders()),
                 ..grid
             }
         }
@@ -57,10 +65,7 @@ fn choose(
     ensures transient_value { result.transient ≡ has_onset (onsets_for (λ i. get_or e.now i nan) num_time_slots) }
 {
     let onsets = sbr_onsets::onsets_of(e, num_time_slots);
-    let mut even = false;
-    if onsets.count == 0 {
-        even = sbr_onsets::halves_alike(e, num_time_slots);
-    }
+    let even = onsets.count == 0 && sbr_onsets::halves_alike(e, num_time_slots);
     let lead = sbr_onsets::lead_of(num_time_slots, t_e_last_prev);
     let frame = Frame {
         nts: num_time_slots as u8,
@@ -73,11 +78,10 @@ fn choose(
 }
 
 // The energies of the slots over the bands of the high table.
-fn energies(samples: FrameSamples, num_time_slots: usize) -> [f64; 24]
-    requires count { is_slot_count num_time_slots ≡ true }
-    requires slots { samples.slots ≡ num_time_slots + 8 }
-    ensures { result ≡ slot_energies (columns samples.entry.x.now) (entry samples.entry.tables.high.now 0) (last_entry samples.entry.tables.high.now) (num_time_slots + 8) }
+fn energies(frame: Tested) -> [f64; 24]
+    ensures { result ≡ slot_energies (columns frame.entry.samples.x.now) (entry frame.entry.samples.tables.high.now 0) (last_entry frame.entry.samples.tables.high.now) (frame.entry.num_time_slots + 8) }
 {
+    let samples = frame.samples;
     let high = samples.tables.high;
     let kx = high[0] as usize;
     let k_end = high[high.len() - 1] as usize;
@@ -85,20 +89,13 @@ fn energies(samples: FrameSamples, num_time_slots: usize) -> [f64; 24]
 }
 
 // The election where all tests are passed.
-fn elected(
-    samples: FrameSamples,
-    t_e_last_prev: i32,
-    variable_borders: bool,
-    num_time_slots: usize,
-) -> Election
-    requires count { is_slot_count num_time_slots ≡ true }
-    requires slots { samples.slots ≡ num_time_slots + 8 }
-    ensures { result ≡ election (elected_of (columns samples.entry.x.now) samples.entry.tables.high.now samples.entry.tables.low.now num_time_slots t_e_last_prev variable_borders) }
+fn elected(frame: Tested, t_e_last_prev: i32, variable_borders: bool) -> Election
+    ensures { result ≡ election (elected_of (columns frame.entry.samples.x.now) frame.entry.samples.tables.high.now frame.entry.samples.tables.low.now frame.entry.num_time_slots t_e_last_prev variable_borders) }
 {
-    let e = energies(samples, num_time_slots);
-    let plan = choose(&e, t_e_last_prev, variable_borders, num_time_slots);
+    let e = energies(frame);
+    let plan = choose(&e, t_e_last_prev, variable_borders, frame.num_time_slots);
     Election {
-        grid: resolved(samples, plan.grid, num_time_slots),
+        grid: resolved(frame, plan.grid),
         ..plan
     }
 }
@@ -115,5 +112,9 @@ pub fn elect_grid(
     ensures { result ≡ result_map election (elect num_time_slots tables.entry.high.now tables.entry.low.now x.now t_e_last_prev variable_borders) }
 {
     let samples = FrameSamples::new(x, tables, num_time_slots)?;
-    Ok(elected(samples, t_e_last_prev, variable_borders, num_time_slots))
+    let frame = Tested {
+        samples,
+        num_time_slots,
+    };
+    Ok(elected(frame, t_e_last_prev, variable_borders))
 }

@@ -101,16 +101,6 @@ module _ (f : ℕ → Float) where
     pub last : (i : ℕ) → i < s → get_or t (i + n - 6) nan ≡ f (i + n - 6)
     pub rest : (i : ℕ) → n ≤ i → i < 24 → get_or t i nan ≡ z
 
-  pub quarters-none : (z : Float) (n : ℕ) → Quarters z n 0 (replicate 24 z)
-  quarters-none z n = record {
-    size = length-replicate 24 z;
-    first = λ i h. absurd (not-suc-le-zero h);
-    second = λ i h. absurd (not-suc-le-zero h);
-    third = λ i h. absurd (not-suc-le-zero h);
-    last = λ i h. absurd (not-suc-le-zero h);
-    rest = λ i h l. get_or-replicate 24 i z nan l;
-  }
-
   -- a quarter of which one place more is filled
   more : (t u : List Float) (s : ℕ) (at : ℕ → ℕ) → ((i : ℕ) → i < s → get_or t (at i) nan ≡ f (at i)) → ((j : ℕ) → get_or t j nan ≡ f j → get_or u j nan ≡ f j)
       → get_or u (at s) nan ≡ f (at s) → (i : ℕ) → i < s + 1 → get_or u (at i) nan ≡ f (at i)

@@ -83,6 +83,7 @@ pub fn slot_energies(x: &[f64], n: usize, kl: usize, kh: usize) -> [f64; 24]
     ensures { result ≡ slot_energies (columns x.now) kl kh n }
 {
     let mut out = [0.0; 24];
+    // By number: a turn fills a place of each quarter.
     for s in 0..QUARTER {
         let l = s + n - QUARTER;
         let c = Start::of_slot(s, kl);

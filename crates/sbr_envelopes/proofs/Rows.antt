@@ -3,7 +3,7 @@ use Rattle.std.specs.Prelude.{Ok}
 use mathlib.Core.Path.{◌≡◌, refl, sym, ◌∙◌}
 use mathlib.Core.Bool.{Bool, true, false, cond}
 use mathlib.Core.List.{List, [], ◌∷◌, ◌++◌, append_assoc, append-nil}
-use Prim.Native.Nat.{ℕ, zero, suc, ◌+◌, ◌-◌, ◌*◌, ◌≤◌, ◌<◌}
+use Prim.Native.Nat.{ℕ, zero, suc, ◌+◌, ◌-◌, ◌≤◌, ◌<◌}
 use native.Mathlib.Decide.{dec_le}
 use native.Mathlib.Numerals.{add-one}
 use native.Mathlib.Omega.{arith}
@@ -32,23 +32,9 @@ pub rows_sum : (fs : List Bool) (h l : ℕ) → sum_by (λ f. cond f h l) fs ≡
 unfolding rows_length
 rows_sum fs h l = sym (is_sum_by (λ gs. sum_of (row_lengths h l gs)) (λ f. cond f h l) refl (λ g gs. refl) fs)
 
--- no envelope has no numbers
-pub length_none : (h l : ℕ) → 0 ≡ rows_length [] h l
-unfolding rows_length
-length_none h l = refl
-
 -- the numbers of n + 1 envelopes
 pub length_more : (fs : List Bool) (n h l : ℕ) → rows_length (first false (n + 1) fs) h l ≡ rows_length (first false n fs) h l + cond (get_or fs n false) h l
 length_more fs n h l = rw (first_next false n fs) (row_more (first false n fs) (get_or fs n false) h l)
-
--- n envelopes have at most 64 numbers each
-pub length_few : (fs : List Bool) (n h l : ℕ) → h ≤ 64 → l ≤ 64 → rows_length (first false n fs) h l ≤ n * 64
-length_few fs zero h l p q = omega (arith, length_none h l)
-length_few fs (suc n) h l p q = rw (← add-one n) (omega (arith, length_more fs n h l, length_few fs n h l p q, one (get_or fs n false)))
-  where
-    one : (f : Bool) → cond f h l ≤ 64
-    one true = p
-    one false = q
 
 -- more envelopes have no fewer numbers
 pub length_grows : (fs : List Bool) (n m h l : ℕ) → n ≤ m → rows_length (first false n fs) h l ≤ rows_length (first false m fs) h l

@@ -35,6 +35,7 @@ fn fill_rows(frame: FrameSamples, resolutions: &[bool], borders: &[u32], out: &m
     ensures { out.new ≡ numbers_after out.old (Ok (rows (columns frame.entry.x.now) frame.entry.tables.high.now frame.entry.tables.low.now resolutions.now (spans borders.now))) }
 {
     let mut at = 0;
+    // Two borders to a resolution: `windows(2)` beside it would be read by the same two indices.
     for (l, high) in resolutions.iter().enumerate() {
         let table = frame.tables.of(*high);
         let bands = table.len() - 1;

@@ -1,32 +1,25 @@
 -- The code's limit, 8964576524791263 / 2 ^ 51, is the largest number of 64 bits whose fifth power does not exceed 1000.
 use Prim.Native.Nat.{ℕ, suc, ◌+◌, ◌-◌, ◌*◌, ◌^◌, ◌<◌, ◌≤◌}
 use mathlib.Core.Path.{◌≡◌, refl, sym, ◌∙◌, ap, subst}
-use mathlib.Core.Logic.{◌⊎◌, inl, inr}
-use mathlib.Core.Bool.{Bool, true, false, not}
+use mathlib.Core.Logic.{inl, inr}
+use mathlib.Core.Bool.{true, false}
 use native.Mathlib.Nat.{lt_of_lt_of_le, le_trans, mul_assoc, mul_right_comm, pow-le-pow_left, one-le-pow, mul-le-mul_right, mul-lt-mul_of_pos_right, lt_of_mul-lt-mul_right, le_of_mul-le-mul_right, mul-le-mul, mul-one}
 use native.Mathlib.Numerals.{add-one-le}
 use native.Mathlib.Omega.{arith}
-use lib.Dec.{T, ltb, lit<, lit≤, ltb→lt, nltb→le}
+use lib.Dec.{T, ltb, lit<, lit≤}
 use lib.Pow.{pow-add, pow_mono}
 use lib.IntN.{ℤ, pos, negsuc}
 use lib.Ieee.{Float, nan, inf, fin, binary64, up, down, lt, fits}
 use lib.Ieee.Fits.{down_pos}
 use borrow.Author.Tests.{lt-ltb, le-ltb}
 use Rattle.sbr_floats.specs.Floats.{spread_is_high}
+use Rattle.std.proofs.lemmas.Bool.{cases_lt}
 use Rattle.std.proofs.lemmas.Nat.{mul-pow}
 use Rattle.sbr_floats.proofs.Format.{digits}
 
--- one of two numbers is below the other, or not
-split : (a b : ℕ) → (a < b) ⊎ (b ≤ a)
-split a b = go (ltb a b) (ltb→lt a b) (nltb→le a b)
-  where
-    go : (t : Bool) → (T t → a < b) → (T (not t) → b ≤ a) → (a < b) ⊎ (b ≤ a)
-    go true f g = inl (f tt)
-    go false f g = inr (g tt)
-
 -- two tests are equal where each way of the first gives that of the second
 same_test : (a b c d : ℕ) → (a < b → c < d) → (b ≤ a → d ≤ c) → ltb a b ≡ ltb c d
-same_test a b c d f g = elim (split a b) [ inl h ↦ lt-ltb a b h ∙ sym (lt-ltb c d (f h)) | inr h ↦ le-ltb a b h ∙ sym (le-ltb c d (g h)) ]
+same_test a b c d f g = elim (cases_lt a b) [ inl h ↦ lt-ltb a b h ∙ sym (lt-ltb c d (f h)) | inr h ↦ le-ltb a b h ∙ sym (le-ltb c d (g h)) ]
 
 -- A / D is at least N / U, whose k th power is above t
 over : (k A D N U t : ℕ) → 0 < D → t * U ^ k < N ^ k → N * D ≤ A * U → t * D ^ k < A ^ k
@@ -49,7 +42,7 @@ step M D W X e h = rw e (mul-le-mul_right D (add-one-le (lt_of_mul-lt-mul_right 
 -- a value of 53 binary digits that is above M / 2 ^ 51 is at least (M + 1) / 2 ^ 51, where M has 53 digits itself
 gap : (M n : ℕ) (e : ℤ) → 2 ^ 52 ≤ M → n < 2 ^ 53 → M * down e < n * up e * 2 ^ 51 → (M + 1) * down e ≤ n * up e * 2 ^ 51
 gap M n (pos k) m s h = omega arith
-gap M n (negsuc k) m s h = elim (split k 51) [
+gap M n (negsuc k) m s h = elim (cases_lt k 51) [
   | inl l ↦
       let i : 51 - suc k + suc k ≡ 51 = omega arith in
       let p : 2 ^ 51 ≡ 2 ^ (51 - suc k) * 2 ^ suc k = subst (λ (z : ℕ). 2 ^ z ≡ 2 ^ (51 - suc k) * 2 ^ suc k) i (pow-add 2 (51 - suc k) (suc k)) in

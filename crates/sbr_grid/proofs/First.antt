@@ -6,8 +6,8 @@ use native.Mathlib.Omega.{arith}
 use native.Mathlib.Nat.{sub-zero, suc-sub-suc}
 use native.Mathlib.Numerals.{add-one}
 use Rattle.std.specs.Prelude.{min, map}
-use lib.ListN.{length, get_or, take, drop, set, replicate, drop_of_length-le, get_or-eq_default}
-use lib.Seq.{drop-nil, drop-cons}
+use lib.ListN.{length, get_or, take, drop, set, replicate, get_or-eq_default}
+use lib.Seq.{drop-cons}
 use Rattle.sbr_grid.specs.Grid.{first}
 
 -- ---- the list
@@ -82,10 +82,6 @@ first-get_or_short d n i xs h k = first-get_or d n i xs h ∙ get_or-eq_default 
 -- from a place below n on: that place and the rest
 pub first-drop : {A : Type 0} (d : A) (n i : ℕ) (xs : List A) → i < n → drop i (first d n xs) ≡ get_or xs i d ∷ drop (i + 1) (first d n xs)
 first-drop d n i xs h = rw (add-one, drop-cons (first d n xs) i d (rw (first-length d n xs) h), first-get_or d n i xs h)
-
--- from n on: nothing
-pub first-drop_past : {A : Type 0} (d : A) (n i : ℕ) (xs : List A) → n ≤ i → drop i (first d n xs) ≡ []
-first-drop_past d n i xs h = drop_of_length-le (first d n xs) {i = i} (omega (arith, first-length d n xs))
 
 -- the first k of them, at most n
 pub first_taken : {A : Type 0} (d : A) (k n : ℕ) (xs : List A) → k ≤ n → take k (first d n xs) ≡ first d k xs
@@ -173,21 +169,3 @@ first_fill d m n xs v l h e =
     ap (λ t. set t n v) e
     ∙ first-append d m n (first d n xs) v (first-length d n xs) h
     ∙ ap (first d m) (sym (first_push d n xs v (omega arith)))
-
--- ---- place by place
-
--- n places of a list from i on, one by one
-abbrev pub places : {A : Type 0} → A → ℕ → ℕ → List A → List A
-places d i zero xs = []
-places d i (suc n) xs = get_or xs i d ∷ places d (suc i) n xs
-
--- the next place, and the rest
-place : {A : Type 0} (d : A) (n i : ℕ) (xs : List A) → get_or xs i d ∷ first d n (drop (suc i) xs) ≡ first d (suc n) (drop i xs)
-place d n i [] = rw (drop-nil i)
-place d n zero (x ∷ xs) = refl
-place d n (suc i) (x ∷ xs) = place d n i xs
-
--- they are the first of what is left
-pub first-places : {A : Type 0} (d : A) (n i : ℕ) (xs : List A) → places d i n xs ≡ first d n (drop i xs)
-first-places d zero i xs = refl
-first-places d (suc n) i xs = rw (first-places d n (suc i) xs) (place d n i xs)

@@ -76,8 +76,8 @@ impl fmt::Display for FrameClass {
     }
 }
 
-// The fields of sbr_grid() for one channel. A list is an array with a count beside it; only the places below the count
-// are in use.
+// The fields of sbr_grid() for one channel. A list is an array with a count beside it, since the memory is fixed and
+// C is given every place; only the places below the count are in use. `resolutions`, `leading` and `trailing` hand out the slices.
 #[derive(Clone, Copy)]
 pub struct SbrGrid {
     pub frame_class: FrameClass,
@@ -174,13 +174,12 @@ pub fn padded<T: Copy, const N: usize>(items: &[T], fill: T) -> [T; N]
     out
 }
 
-// One resolution for each of num_env envelopes; the places behind them are false.
+// One resolution for each of num_env envelopes, as many as there are places; the places behind them are false.
 pub fn same_resolutions(num_env: usize, high: bool) -> [bool; SbrGrid::MAX_NUM_ENV]
-    requires { num_env ≤ 5 }
     ensures { result ≡ first false 5 (replicate num_env high) }
 {
     let mut flags = [false; SbrGrid::MAX_NUM_ENV];
-    flags[..num_env].fill(high);
+    flags[..num_env.min(SbrGrid::MAX_NUM_ENV)].fill(high);
     flags
 }
 
@@ -201,7 +200,7 @@ pub fn is_overridden(class: FrameClass, num_env: usize) -> bool
 // Bits of bs_pointer for 1 to 5 envelopes.
 const PTR_BITS: [u32; SbrGrid::MAX_NUM_ENV] = [1, 2, 2, 3, 3];
 
-// The width of bs_pointer; 0 for a count that no grid has.
+// The width of bs_pointer; 0 for a count that no grid has, and no `Option`: what could not fail before does not begin to.
 #[tactic(auto, using(crate::proofs::Widths::width_none, crate::proofs::Widths::width_over, crate::proofs::Widths::width_at))]
 pub fn ptr_bits(num_env: usize) -> u32
     ensures { result ≡ table_width num_env }
@@ -249,7 +248,7 @@ impl From<Refusal> for u32 {
     }
 }
 
-// The borders of a frame. Places past a count are zero.
+// The borders of a frame: arrays with counts, as in a record. Places past a count are zero. `borders` and `noise_borders` hand out the slices.
 #[derive(Clone, Copy)]
 pub struct TimeGrid {
     // The envelopes; there is one border more.
@@ -258,7 +257,7 @@ pub struct TimeGrid {
     // The noise floors; there is one noise border more.
     pub num_noise: usize,
     pub t_q: [u32; TimeGrid::MAX_NOISE_BORDERS],
-    // The marked envelope; -1 for none.
+    // The marked envelope; -1 for none, as the standard and C have it.
     pub l_a: i32,
 }
 

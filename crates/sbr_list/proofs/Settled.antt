@@ -1,15 +1,15 @@
 -- What was read of a listing's frames stays, whatever follows.
 use Rattle.std.specs.Prelude.{Ok, Err}
-use mathlib.Core.Path.{◌≡◌, refl, sym, ◌∙◌}
+use mathlib.Core.Path.{◌≡◌, refl, ◌∙◌}
 use mathlib.Core.Bool.{Bool, true, false}
 use mathlib.Core.List.{List, [], ◌∷◌, ◌++◌, append_assoc}
-use Prim.Native.Nat.{ℕ, zero, suc, ◌+◌, ◌-◌, ◌/◌, ◌≤◌, ◌<◌}
+use Prim.Native.Nat.{ℕ, zero, suc, ◌+◌, ◌-◌, ◌/◌, ◌≤◌}
 use native.Mathlib.Omega.{arith}
 use native.Mathlib.Decide.{dec_le}
 use borrow.Author.Tests.{le-leb, lt-leb}
 use lib.IntN.{pos}
-use lib.ListN.{length, take, drop, get_or, length-append, get_or-append}
-use lib.Seq.{get_or-append-add, take_at}
+use lib.ListN.{length, length-append, get_or-append}
+use lib.Seq.{get_or-append-add}
 use Rattle.bits.specs.Bits.{get_bit, bits_at}
 use Rattle.bits.specs.Room.{end_of, bits_from}
 use Rattle.bits.proofs.Stream.{bits_at-add, bits_alike}
@@ -23,8 +23,8 @@ use Rattle.sbr_parse.proofs.Inverse.{Sent, seen_grid}
 use Rattle.sbr_parse.proofs.Window.{behind}
 use Rattle.sbr_reader.specs.declared.Carried.{Carried}
 use Rattle.sbr_reader.specs.Read.{Accepted, parsed, read_grid, carrying, starting}
-use Rattle.sbr_list.specs.Listing.{decimal, frame_line, refusal_line, and_then, lines_from, listing, over}
-use Rattle.sbr_list.specs.Enough.{is_letter, settled, SettledInput}
+use Rattle.sbr_list.specs.Listing.{decimal, frame_line, refusal_line, and_then, lines_from, listing}
+use Rattle.sbr_list.specs.Enough.{settled, SettledInput}
 use Rattle.sbr_list.proofs.Enough.{more_behind}
 
 -- ---- bits
@@ -70,19 +70,6 @@ settled-append xs ys h e = go (dec_le (length ys) 1)
         let a : length (xs ++ ys) - 2 ≡ length xs + (length ys - 2) = omega (arith, length-append xs ys) in
         rw (lt-leb (length ys) 1 (omega arith))
         (rw (lt-leb (length (xs ++ ys)) 1 (omega (arith, length-append xs ys)), a, get_or-append-add xs ys (length ys - 2) 0) at e)
-
--- by its length and its second last byte
-pub settled_short : (s : List ℕ) → length s ≤ 1 → true ≡ settled s
-unfolding settled
-settled_short s h = rw (le-leb (length s) 1 h)
-
-pub settled_long : (s : List ℕ) (b : Bool) → 1 < length s → b ≡ is_letter (get_or s (length s - 2) 0) → b ≡ settled s
-unfolding settled
-settled_long s b h g = rw (lt-leb (length s) 1 (omega arith)) g
-
--- the front of a page holds a text
-pub settled_page : (s page l : List ℕ) (n : ℕ) (b : Bool) → n ≡ length s → page ≡ over s l → b ≡ settled (take n page) → b ≡ settled s
-settled_page s page l n b e f g = rw (f, take_at s (drop (length s) l) n (sym e)) at g
 
 -- the line of a refusal ends in a digit
 not_refused : (i : ℕ) (e : Refusal) → settled (refusal_line i e) ≡ true → ⊥

@@ -14,11 +14,11 @@ use Rattle.sbr_grid.specs.Refusals.{result_map}
 use Rattle.sbr_grid.specs.Grid.{record_of}
 use Rattle.sbr_grid.proofs.Laws.{view_record}
 use Rattle.sbr_grid.proofs.First.{first-first}
+use Rattle.sbr_grid.proofs.Outcomes.{map_answered, map_refused}
 use Rattle.sbr_grid.specs.Times.{time_record}
 use Rattle.sbr_reader.specs.declared.FrameRead.{FrameRead}
 use Rattle.sbr_reader.specs.declared.Carried.{Carried}
 use Rattle.sbr_reader.specs.Read.{Accepted, read_grid, carrying, starting, frame_read}
-use Rattle.sbr_reader.proofs.Reached.{mapped_ok, mapped_err}
 use Rattle.sbr_list.specs.Listing.{frame_line, refusal_line, lines_from, listing, over}
 use Rattle.sbr_list.specs.Line.{Short, shown_of}
 use Rattle.sbr_list.proofs.Whole.{length_frame, length_refusal}
@@ -82,15 +82,15 @@ shown_frame f i s =
 
 pub read_given : (l : List ℕ) (p n : ℕ) (c : Carried) (r : FrameRead) (i : ℕ) → Ok r ≡ result_map frame_read (read_grid l p n c) → i < 1000 → Read l p n c r i
 read_given l p n c r i h k =
-    let f = mapped_ok frame_read (read_grid l p n c) r h in
-    let s = frame_shows l p n c f.0 i f.1 k in
+    let f = map_answered frame_read (read_grid l p n c) r h in
+    let s = frame_shows l p n c f.0 i f.1.0 k in
     record {
       frame = f.0;
-      outcome = f.1;
+      outcome = f.1.0;
       short = s.short;
-      shown = ap (λ x. shown_of x.grid x.time) f.2 ∙ shown_frame f.0 i s;
-      position = ap (λ x. x.position) f.2;
-      carried = ap (λ x. x.carried) f.2;
+      shown = ap (λ x. shown_of x.grid x.time) f.1.1 ∙ shown_frame f.0 i s;
+      position = ap (λ x. x.position) f.1.1;
+      carried = ap (λ x. x.carried) f.1.1;
     }
 
 -- the line that is put for a frame, and the one for a refusal
@@ -136,7 +136,7 @@ module _ (l : List ℕ) (n k : ℕ) (c₀ : Carried) (page₀ : List ℕ) where
         → (w : List ℕ) → Holds w (refusal_line i x) → (q : ℕ) (next : List ℕ) → q ≡ at + length w → next ≡ sets page at w
         → (q ≡ length (lines_from l n k 0 0 c₀)) × (next ≡ over (lines_from l n k 0 0 c₀) page₀)
     reached-refused d g a x h w t q next e f =
-        let o = mapped_err frame_read (read_grid l p n c) x h in
+        let o = map_refused frame_read (read_grid l p n c) x h in
         reached-end (refusal_line i x) (lines_refused l n k i p c x d o) (omega (arith, s.few, t.len, t.few)) q next
         (omega (arith, t.len)) (rw t.text at f)
 

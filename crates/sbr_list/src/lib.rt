@@ -38,6 +38,7 @@ fn frames(bits: &[u8], slots: usize, count: usize, carried: Carried, page: &mut 
     let mut at = 0;
     let mut position = 0;
     let mut carried = carried;
+    // A frame's number stands in its line, and nothing but the count says how many frames there are.
     for i in 0..count {
         match sbr_reader::read_grid(bits, position, slots, carried) {
             Ok(read) => {

@@ -8,7 +8,7 @@ use arrayvec::ArrayVec;
 use itoa::{Buffer, Integer};
 use sbr_grid::{FrameClass, Refusal, SbrGrid, TimeGrid};
 
-// A text of at most SIZE bytes. It is no `fmt::Write`: of a `write!` that may fail no contract says what it wrote.
+// A text of at most SIZE bytes. It is no `fmt::Write`: no contract says that a `write!` to what never fails is `Ok`.
 #[derive(Drop)]
 pub struct Line {
     bytes: ArrayVec<u8, SIZE>,
@@ -107,7 +107,7 @@ impl Line {
     }
 }
 
-// The name of a class. No contract says what `FrameClass`'s `Display` writes.
+// The name of a class. `FrameClass`'s `Display` writes it to a `fmt::Write` alone, which a line is not.
 fn name(class: FrameClass) -> &'static [u8; 6]
     ensures { result.now ≡ class_name class }
 {

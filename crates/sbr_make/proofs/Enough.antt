@@ -1,5 +1,6 @@
 -- The claim of specs/Enough.antt: what stands behind the longest text and one byte more changes nothing.
 use Rattle.std.specs.Prelude.{Ok, Err}
+use Rattle.std.proofs.lemmas.Bool.{not-true}
 use mathlib.Core.Path.{◌≡◌, refl, sym, ap, ◌∙◌}
 use mathlib.Core.Bool.{and-eq-true_iff}
 use mathlib.Core.List.{List, [], ◌∷◌, ◌++◌}
@@ -16,7 +17,7 @@ use Rattle.sbr_grid.specs.Refusals.{Outcome, unless}
 use Rattle.sbr_text.specs.Parts.{read_line}
 use Rattle.sbr_make.specs.Making.{lines_of, Making, no_frames, add_line, TextOutcome, or_stopped, most_text, made_from, text_stream}
 use Rattle.sbr_make.specs.Enough.{EnoughText}
-use Rattle.sbr_make.proofs.Plain.{Plain, is_false, first-line}
+use Rattle.sbr_make.proofs.Plain.{Plain, first-line}
 use Rattle.sbr_make.proofs.Firsts.{made-long}
 
 -- ---- texts with no line feed, and the first line of others
@@ -25,7 +26,7 @@ use Rattle.sbr_make.proofs.Firsts.{made-long}
 one_line : (l : List ℕ) → Plain l → lines_of l ≡ l ∷ []
 unfolding lines_of
 one_line [] h = refl
-one_line (b ∷ l) h = let p = simp and-eq-true_iff at h in rw (is_false (eqb b 10) p.0, one_line l p.1)
+one_line (b ∷ l) h = let p = simp and-eq-true_iff at h in rw (not-true (eqb b 10) p.0, one_line l p.1)
 
 -- the front of such a text is one
 plain_front : (a b : List ℕ) → Plain (a ++ b) → Plain a

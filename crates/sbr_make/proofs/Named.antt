@@ -1,13 +1,12 @@
 -- What a frame that is named has.
 use Rattle.std.specs.Prelude.{Ok}
-use mathlib.Core.Path.{◌≡◌, refl}
+use Rattle.std.specs.Int.Signed.{pos-nat_abs}
+use mathlib.Core.Path.{◌≡◌}
 use mathlib.Core.Bool.{Bool, true}
 use mathlib.Core.List.{List}
 use Prim.Native.Nat.{ℕ, ◌≤◌}
 use native.Mathlib.Omega.{arith}
-use lib.Dec.{T}
-use lib.IntN.{ℤ, pos, negsuc, nat_abs}
-use lib.Signed.{non_neg}
+use lib.IntN.{ℤ, pos, nat_abs}
 use lib.ListN.{length, get_or}
 use Rattle.sbr_grid.specs.Grid.{Grid, view_of, record_of}
 use Rattle.std.specs.List.{list_all}
@@ -19,14 +18,9 @@ use Rattle.sbr_named.proofs.Limits.{limits}
 use Rattle.sbr_named.proofs.Signed.{border_at}
 use Rattle.sbr_make.specs.Making.{Making, add_frame}
 
--- a number that is not negative is its absolute value
-not_below : (z : ℤ) → T (non_neg z) → pos (nat_abs z) ≡ z
-not_below (pos k) h = refl
-not_below (negsuc k) h = absurd h
-
 -- so is a border
 pub border_pos : (zs : List ℤ) (i : ℕ) → list_all is_border zs ≡ true → pos (nat_abs (get_or zs i (pos 0))) ≡ get_or zs i (pos 0)
-border_pos zs i e = not_below (get_or zs i (pos 0)) (border_at zs i e).positive
+border_pos zs i e = pos-nat_abs (get_or zs i (pos 0)) (border_at zs i e).positive
 
 -- a grid that is chosen can be written and is the view of its record; there are two borders or more, each such as a frame can have
 pub record Choice (zs : List ℤ) (g : Grid) : Type 0 where

@@ -1,6 +1,7 @@
 -- Texts with no line feed in them, and the lines of a text that a listing begins.
+use Rattle.std.proofs.lemmas.Bool.{not-true}
 use mathlib.Core.Path.{◌≡◌, refl, sym, ap, ◌∙◌}
-use mathlib.Core.Bool.{Bool, true, false, not, false≢true, and-eq-true_iff}
+use mathlib.Core.Bool.{Bool, true, false, not, and-eq-true_iff}
 use mathlib.Core.List.{List, [], ◌∷◌, ◌++◌, map}
 use Prim.Native.Nat.{ℕ, suc, ◌+◌, ◌/◌, ◌%◌}
 use native.Mathlib.Decide.{dec_lt}
@@ -22,16 +23,11 @@ use Rattle.sbr_make.specs.Making.{lines_of}
 abbrev pub Plain : List ℕ → Type 0
 Plain l = list_all (λ b. not (eqb b 10)) l ≡ true
 
--- what is not so is otherwise
-pub is_false : (b : Bool) → not b ≡ true → b ≡ false
-is_false true h = absurd (false≢true h)
-is_false false h = refl
-
 -- such bytes before a line feed are the first line
 pub first-line : (l r : List ℕ) → Plain l → lines_of (l ++ (10 ∷ r)) ≡ l ∷ lines_of r
 unfolding lines_of
 first-line [] r h = refl
-first-line (b ∷ l) r h = let p = simp and-eq-true_iff at h in rw (is_false (eqb b 10) p.0, first-line l r p.1)
+first-line (b ∷ l) r h = let p = simp and-eq-true_iff at h in rw (not-true (eqb b 10) p.0, first-line l r p.1)
 
 -- two such texts
 plain_both : (a b : List ℕ) → Plain a → Plain b → Plain (a ++ b)

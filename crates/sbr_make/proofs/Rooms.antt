@@ -31,6 +31,7 @@ none_room = record {
   slots = omega arith;
   position = omega arith;
   begin = omega arith;
+  next = omega arith;
   size = length-replicate {A = ℕ} 829 0;
   clear = λ i h. zeros_at 829 i;
 }
@@ -65,12 +66,13 @@ module _ (m : Making) (r : InRoom m) (g : Grid) (w : writable g ≡ true) (h : m
       rw (w, room_back (length m.bytes) m.position (length (grid_bits g)) (record { within = t; holds = omega (arith, r.size) }))
 
   -- and there is room after it
-  pub more_room : (first last : ℕ) → first ≤ 19 → InRoom (more m first last g)
-  more_room first last a = record {
+  pub more_room : (first last : ℕ) → first ≤ 19 → last ≤ 19 → InRoom (more m first last g)
+  more_room first last a b = record {
     count = omega arith;
     slots = r.slots;
     position = omega (arith, length_grid g w, r.position);
     begin = either_low (eqb m.count 0) first m.begin a r.begin;
+    next = omega (arith, b);
     size = length-put_bits m.bytes m.position (grid_bits g) ∙ r.size;
     clear = λ i k.
         (put_leaves m.bytes m.position (grid_bits g) (some_bits g) bits_within).past i (omega (arith, some_bits g)) ∙ r.clear i (omega arith);
@@ -98,6 +100,7 @@ slots_room m n r e = record {
   slots = slots_few n e;
   position = r.position;
   begin = r.begin;
+  next = r.next;
   size = r.size;
   clear = r.clear;
 }

@@ -20,6 +20,7 @@ pub record InRoom (m : Making) : Type 0 where
   pub slots : m.slots ≤ 16
   pub position : m.position ≤ 26 * m.count
   pub begin : m.begin ≤ 19
+  pub next : m.next ≤ 19
   pub size : length m.bytes ≡ most_bytes
   pub clear : (i : ℕ) → (m.position + 7) / 8 ≤ i → get_or m.bytes i 0 ≡ 0
 

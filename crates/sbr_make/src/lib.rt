@@ -99,6 +99,7 @@ impl Frames {
     fn add_frame(mut self, first: u32, last: u32, grid: SbrGrid) -> Result<Self, Refusal>
         requires fits { writable (view_of grid) ≡ true }
         requires low { first ≤ 19 }
+        requires near { last ≤ 19 }
         ensures { result ≡ add_frame self (pos first) (pos last) (view_of grid) }
     {
         if self.count != 0 && first != self.next {

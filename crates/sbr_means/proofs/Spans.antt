@@ -6,6 +6,7 @@ use native.Mathlib.Nat.{add-zero, zero-add, suc-add}
 use native.Mathlib.Omega.{arith}
 use lib.Seq.{get_or-take, get_or-drop}
 use lib.ListN.{length, get_or, take, drop, length-take, length-drop}
+use Rattle.std.proofs.lemmas.List.{map_push}
 use Rattle.sbr_bands.specs.Tables.{entry, Span, spans_from, spans}
 use Rattle.sbr_means.specs.Means.{Bands}
 use Rattle.sbr_bands.proofs.TableLaws.{Table}
@@ -37,11 +38,6 @@ unfolding spans_from
 mapped_length f xs i zero = refl
 mapped_length f xs i (suc k) = ap suc (mapped_length f xs (suc i) k)
 
--- an element more at the end
-map-end : {A B : Type 0} (f : A → B) (xs : List A) (x : A) → map f (xs ++ (x ∷ [])) ≡ map f xs ++ (f x ∷ [])
-map-end f [] x = refl
-map-end {B = B} f (y ∷ ys) x = ap {B = List B} (λ (t : List B). f y ∷ t) (map-end f ys x)
-
 -- the number of span j
 pub mapped_at : {A : Type 0} (f : Span → A) (xs : List ℕ) (i k j : ℕ) (d : A) → j < k
     → get_or (map f (spans_from xs i k)) j d ≡ f (record { from = entry xs (i + j); to = entry xs (i + j + 1) })
@@ -68,7 +64,7 @@ spans_more xs k = rw (zero-add k) at (spans-append xs 0 k 1)
 -- a number for one span more
 pub mapped_more : {A : Type 0} (f : Span → A) (xs : List ℕ) (k : ℕ)
     → map f (spans_from xs 0 (k + 1)) ≡ map f (spans_from xs 0 k) ++ (f (record { from = entry xs k; to = entry xs (k + 1) }) ∷ [])
-mapped_more f xs k = rw (spans_more xs k) (map-end f (spans_from xs 0 k) _)
+mapped_more f xs k = rw (spans_more xs k) (map_push f (spans_from xs 0 k) _)
 
 -- the spans look at their entries alone, wherever they stand
 spans_moved : (xs ys : List ℕ) (i m k : ℕ) → ((j : ℕ) → j ≤ k → entry xs (i + j) ≡ entry ys (m + j)) → spans_from xs i k ≡ spans_from ys m k
@@ -83,12 +79,6 @@ spans_moved xs ys i m (suc k) e =
         let p : suc i + j ≡ i + (j + 1) = omega arith in
         let q : suc m + j ≡ m + (j + 1) = omega arith in
         rw (p, q) e
-
-pub spans-same : (xs ys : List ℕ) (i k : ℕ) → ((j : ℕ) → i ≤ j → j ≤ i + k → entry xs j ≡ entry ys j) → spans_from xs i k ≡ spans_from ys i k
-unfolding spans_from
-spans-same xs ys i zero e = refl
-spans-same xs ys i (suc k) e =
-    rw (e i (omega arith) (omega arith), e (i + 1) (omega arith) (omega arith), spans-same xs ys (suc i) k (λ j h l. e j (omega arith) (omega arith)))
 
 -- numbers that are the same for each span
 pub mapped_same : {A : Type 0} (f g : Span → A) (xs : List ℕ) (i k : ℕ)

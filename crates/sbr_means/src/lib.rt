@@ -18,7 +18,7 @@ pub struct Envelope<'a> {
     ghost sampled: { Sampled x.now from to },
 }
 
-// The sums of two bands.
+// The sums of two bands. Not sbr_energy's `Sums`, which are of four runs in a column each.
 #[derive(Clone, Copy)]
 struct Pair {
     a: f64,
@@ -33,6 +33,7 @@ impl<'a> Envelope<'a> {
         ensures b_value { result.b ≡ band_total (columns self.entry.x.now) self.entry.from self.entry.to (k + w) (k + w + w) }
     {
         let mut pair = Pair { a: 0.0, b: 0.0 };
+        // A slot is a number here, and a fold over the numbers would carry the pair through a step that is no shorter.
         for t in self.from..self.to {
             let low = Start::of_slot(t, k);
             let high = Start::of_slot(t, k + w);
@@ -64,6 +65,7 @@ impl<'a> Envelope<'a> {
     {
         let slots = self.to - self.from;
         let mut sum = 0.0;
+        // Two slots at a turn, by number: `step_by(2)` leaves the odd slot at the end out just the same.
         for i in 0..slots / 2 {
             let c = Start::of_slot(self.from + 2 * i, k);
             let e = Start::of_slot(self.from + 2 * i + 1, k);

@@ -4,24 +4,23 @@ use Rattle.std.specs.Option.{ok_or}
 use Rattle.std.specs.List.{list_all, find}
 use mathlib.Core.Path.{◌≡◌, sym, ◌∙◌}
 use mathlib.Core.Bool.{Bool, true, false, ◌&&◌, false≢true, and-eq-true_iff}
-use mathlib.Core.List.{List, map, map-append}
-use Prim.Native.Nat.{ℕ, ◌+◌, ◌≤◌, ◌<◌}
+use mathlib.Core.List.{List, map}
+use Prim.Native.Nat.{ℕ, ◌+◌, ◌≤◌}
 use native.Mathlib.Omega.{arith}
 use borrow.Author.Tests.{le-leb, eq-eqb, leb-true, eqb-true}
 use lib.Dec.{leb, eqb}
-use lib.IntN.{ℤ, pos, nat_abs}
-use Rattle.std.proofs.lemmas.List.{take_more, length-take-le}
-use lib.ListN.{length, get_or, take, set, length-map}
+use lib.IntN.{ℤ, nat_abs}
+use Rattle.std.proofs.lemmas.Bool.{and_parts}
+use lib.ListN.{length, take, length-map}
 use Rattle.sbr_grid.specs.declared.SbrGrid.{SbrGrid}
 use Rattle.sbr_grid.specs.declared.Refusal.TheVariants.{SlotCount, NoGrid}
 use Rattle.sbr_grid.specs.Refusals.{Outcome, result_map}
 use Rattle.sbr_grid.specs.Grid.{first, view_of, record_of}
 use Rattle.sbr_grid.specs.Times.{is_slot_count}
-use Rattle.sbr_grid.proofs.First.{first-length, first_take, first_back, first-append}
+use Rattle.sbr_grid.proofs.First.{first-length, first_take, first_back}
 use Rattle.sbr_named.specs.Shapes.{candidate, has_borders, named_grid}
 use Rattle.sbr_named.specs.declared.shape.TheConstants.{SHAPES}
 use Rattle.sbr_named.specs.Code.{is_border, is_mark, can_be_named}
-use Rattle.sbr_writer.proofs.Writable.{both}
 use Rattle.sbr_named.proofs.Tried.{found}
 use Rattle.sbr_named.proofs.Chosen.{no_grid_exactly}
 use Rattle.sbr_named.proofs.Limits.{Limits, limits}
@@ -31,7 +30,7 @@ module _ (zs : List ℤ) (res : List Bool) (mark : ℤ) where
   -- what the test of what is named says
   pub can_told : can_be_named zs res mark ≡ true → Limits zs res mark
   can_told h =
-      let q = both (leb 1 (length res) && leb (length res) 5 && eqb (length zs) (length res + 1) && list_all is_border zs) (is_mark mark) h in
+      let q = and_parts (leb 1 (length res) && leb (length res) 5 && eqb (length zs) (length res + 1) && list_all is_border zs) (is_mark mark) h in
       let p = simp and-eq-true_iff at q.0 in
       record {
         count = eqb-true (length zs) (length res + 1) p.0.1;
@@ -69,12 +68,3 @@ pub answer : (n : ℕ) (zs : List ℤ) (res : List Bool) (mark m : ℤ) (bs : Li
 unfolding named_grid
 answer n zs res mark m bs r s l b e f =
     rw (s, border_from_zero zs l.borders, ← b, ← e) (rw f (found n bs res m l.some l.few))
-
--- one border more in the places in use
-pub place_more : (zs : List ℤ) (i : ℕ) → i < length zs → length zs ≤ 6
-    → set (first 0 6 (map nat_abs (take i zs))) i (nat_abs (get_or zs i (pos 0))) ≡ first 0 6 (map nat_abs (take (i + 1) zs))
-place_more zs i h k =
-    let v = nat_abs (get_or zs i (pos 0)) in
-    let xs = map nat_abs (take i zs) in
-    let n : length xs ≡ i = length-map (take i zs) nat_abs ∙ length-take-le i zs (omega arith) in
-    rw (take_more zs i (pos 0) h, map-append) (first-append 0 6 i xs v n (omega arith))

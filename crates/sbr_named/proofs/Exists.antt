@@ -5,6 +5,7 @@ use Rattle.std.specs.Ordering.{int_eq}
 use Rattle.std.specs.Cmp.Lexicographic.{pointwise}
 use Rattle.std.proofs.lemmas.Bool.Decides.{Decides-int_eq}
 use Rattle.std.proofs.lemmas.Slice.Eq.{bytes_eq-Decides}
+use Rattle.std.proofs.lemmas.Bool.{and_parts}
 use mathlib.Core.Path.{◌≡◌, refl, ap, ◌∙◌}
 use mathlib.Core.Bool.{Bool, true, false≢true}
 use mathlib.Core.List.{List}
@@ -20,7 +21,6 @@ use Rattle.sbr_grid.specs.Times.{Times}
 use Rattle.sbr_time_grid.specs.TimeGrid.{mark_of, t_q_of, l_a_of, time_grid}
 use Rattle.sbr_time_grid.proofs.Laws.{each_class}
 use Rattle.sbr_writer.specs.Write.{writable}
-use Rattle.sbr_writer.proofs.Writable.{both}
 use Rattle.sbr_named.specs.Shapes.{shaped, pointer_for, candidate, shape_at, has_times, has_borders}
 use Rattle.sbr_named.proofs.Passed.{fit_fields, timed}
 use Rattle.sbr_named.proofs.Alike.{repointed, repointed-fits, repointed-time}
@@ -41,7 +41,7 @@ module _ (n : ℕ) (bs : List ℕ) (mark : ℤ) (g : Grid) where
   told : writable g ≡ true → (o : Outcome Times) → time_grid n g ≡ o → has_times bs mark o ≡ true → HasBorders n bs g.freq_res mark g
   unfolding has_times
   told w (Ok t) e h =
-      let v = both (pointwise eqb t.t_e bs) (int_eq t.l_a mark) h in
+      let v = and_parts (pointwise eqb t.t_e bs) (int_eq t.l_a mark) h in
       let b = (bytes_eq-Decides t.t_e bs).0 v.0 in
       let m = (Decides-int_eq t.l_a mark).0 v.1 in
       record { fits = w; noise = t.t_q; time = e ∙ λ i. Ok (record { t_e = b i; t_q = t.t_q; l_a = m i }); flags = refl }
@@ -51,7 +51,7 @@ module _ (n : ℕ) (bs : List ℕ) (mark : ℤ) (g : Grid) where
   pub passes-has : has_borders n bs mark g ≡ true → HasBorders n bs g.freq_res mark g
   unfolding has_borders
   passes-has e =
-      let t = both (writable g) (has_times bs mark (time_grid n g)) e in
+      let t = and_parts (writable g) (has_times bs mark (time_grid n g)) e in
       told t.0 (time_grid n g) refl t.1
 
   -- and one that has them passes

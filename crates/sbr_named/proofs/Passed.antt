@@ -1,5 +1,6 @@
 -- What the tests of the writer and of the time grid say of a record that passes them.
 use Rattle.std.specs.Prelude.{Ok}
+use Rattle.std.proofs.lemmas.Bool.{and_parts}
 use mathlib.Core.Path.{◌≡◌}
 use mathlib.Core.Bool.{true, and-eq-true_iff}
 use Prim.Native.Nat.{ℕ}
@@ -9,14 +10,14 @@ use Rattle.sbr_time_grid.specs.TimeGrid.{t_e_of, rises, borders_fit, noise_fits,
 use Rattle.sbr_time_grid.proofs.Laws.{Counts, counts}
 use Rattle.sbr_time_grid.proofs.Ends.{time_passes}
 use Rattle.sbr_writer.specs.Write.{class_fits, fields_fit_of, writable}
-use Rattle.sbr_writer.proofs.Writable.{both, Fields, fields_told}
+use Rattle.sbr_writer.proofs.Writable.{Fields, fields_told}
 
 -- a writable record has fields as the writer takes them, and the counts that its class can send
 pub fit_fields : (g : Grid) → writable g ≡ true → Fields g
-fit_fields g w = fields_told g (both (fields_fit_of g) (class_fits g.frame_class g) w).0
+fit_fields g w = fields_told g (and_parts (fields_fit_of g) (class_fits g.frame_class g) w).0
 
 pub fit_class : (g : Grid) → writable g ≡ true → class_fits g.frame_class g ≡ true
-fit_class g w = (both (fields_fit_of g) (class_fits g.frame_class g) w).1
+fit_class g w = (and_parts (fields_fit_of g) (class_fits g.frame_class g) w).1
 
 -- a record with a time grid has passed each test of it
 pub record Timed (n : ℕ) (g : Grid) (t : Times) : Type 0 where

@@ -12,7 +12,7 @@ use lib.ListN.{get_or, get_or-map}
 use Rattle.sbr_grid.specs.declared.FrameClass.{FrameClass}
 use Rattle.sbr_grid.specs.Grid.{by_class}
 use Rattle.std.specs.List.{list_all}
-use Rattle.sbr_writer.proofs.Writable.{both}
+use Rattle.std.proofs.lemmas.Bool.{and_parts}
 use Rattle.sbr_named.specs.Shapes.{pointer_for, from_zero_of}
 use Rattle.sbr_named.specs.Code.{is_border}
 
@@ -21,8 +21,8 @@ use Rattle.sbr_named.specs.Code.{is_border}
 -- every element of a list passes a test, and so does what stands past its end
 every_at : {A : Type 0} (f : A → Bool) (d : A) (xs : List A) (i : ℕ) → f d ≡ true → list_all f xs ≡ true → f (get_or xs i d) ≡ true
 every_at f d [] i z e = z
-every_at f d (x ∷ xs) zero z e = (both (f x) (list_all f xs) e).0
-every_at f d (x ∷ xs) (suc i) z e = every_at f d xs i z (both (f x) (list_all f xs) e).1
+every_at f d (x ∷ xs) zero z e = (and_parts (f x) (list_all f xs) e).0
+every_at f d (x ∷ xs) (suc i) z e = every_at f d xs i z (and_parts (f x) (list_all f xs) e).1
 
 -- a number that is not negative and at most m
 pub record Whole (z : ℤ) (m : ℕ) : Type 0 where
@@ -31,7 +31,7 @@ pub record Whole (z : ℤ) (m : ℕ) : Type 0 where
 
 -- a border is such a number, up to 19
 border_whole : (z : ℤ) → is_border z ≡ true → Whole z 19
-border_whole (pos k) e = record { positive = tt; low = leb-true k 19 (both (leb 0 k) (leb k 19) e).1 }
+border_whole (pos k) e = record { positive = tt; low = leb-true k 19 (and_parts (leb 0 k) (leb k 19) e).1 }
 border_whole (negsuc k) e = absurd (false≢true e)
 
 -- so is the number at any place of a list of borders, and past its end
@@ -49,7 +49,7 @@ pos_back ns = map-map nat_abs pos ns ∙ map-id ns
 -- no border is below 0
 pub border_from_zero : (zs : List ℤ) → list_all is_border zs ≡ true → list_all from_zero_of zs ≡ true
 border_from_zero [] e = refl
-border_from_zero (pos b ∷ zs) e = border_from_zero zs (both (is_border (pos b)) (list_all is_border zs) e).1
+border_from_zero (pos b ∷ zs) e = border_from_zero zs (and_parts (is_border (pos b)) (list_all is_border zs) e).1
 border_from_zero (negsuc b ∷ zs) e = absurd (false≢true e)
 
 -- ---- marks

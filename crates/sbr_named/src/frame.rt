@@ -44,7 +44,6 @@ impl NamedFrame<'_> {
 
     // The stored length of the envelope that is i from the end of the frame on a side, of `count` ones; 0 behind them.
     fn length_at(&self, side: Side, count: usize, i: usize) -> u8
-        requires { i < 4 }
         ensures { result ≡ get_or (side_lengths side self.now.borders.now (length self.now.freq_res.now) count) i 0 }
     {
         if count <= i {
@@ -60,16 +59,10 @@ impl NamedFrame<'_> {
     }
 
     // The stored lengths of the `count` outermost envelopes of a side; the places behind them are 0.
-    // The places are written out: `array::from_fn` was tried, and its contract does not tell that the closure's captures stay the same from call to call.
     fn stored_lengths(&self, side: Side, count: usize) -> [u8; SbrGrid::MAX_REL_BORD]
         ensures { result ≡ first 0 4 (side_lengths side self.now.borders.now (length self.now.freq_res.now) count) }
     {
-        [
-            self.length_at(side, count, 0),
-            self.length_at(side, count, 1),
-            self.length_at(side, count, 2),
-            self.length_at(side, count, 3),
-        ]
+        [0, 1, 2, 3].map(|i| self.length_at(side, count, i))
     }
 
     // The border byte of the first border, in the classes that send one.

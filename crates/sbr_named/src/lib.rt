@@ -1,7 +1,7 @@
 // A grid for borders that are named: the record that sends them, if there is one.
 #![tactic(auto)]
 
-ghost use Rattle.std.specs.Prelude.{◌≡◌, ◌≤◌, length, map, nat_abs};
+ghost use Rattle.std.specs.Prelude.{◌≡◌, map, nat_abs};
 ghost use Rattle.std.specs.List.{list_all};
 ghost use Rattle.sbr_grid.specs.Refusals.{result_map};
 ghost use Rattle.sbr_grid.specs.Grid.{first, record_of};
@@ -47,14 +47,9 @@ fn can_be_named(borders: &[i32], freq_res: &[bool], l_a: i32) -> bool
 
 // The borders in the places of a time grid, without their signs; those behind the last one are 0.
 fn border_places(borders: &[i32]) -> [u32; TimeGrid::MAX_BORDERS]
-    requires { length borders.now ≤ 6 }
     ensures { result ≡ first 0 6 (map nat_abs borders.now) }
 {
-    let mut places = [0; TimeGrid::MAX_BORDERS];
-    for (i, border) in borders.iter().enumerate() {
-        places[i] = border.unsigned_abs();
-    }
-    places
+    sbr_grid::padded::<i32, { TimeGrid::MAX_BORDERS }>(borders, 0).map(i32::unsigned_abs)
 }
 
 // The record whose time grid has these borders and this mark, with these resolutions, as the reader gives it for its bits: of several the one with the

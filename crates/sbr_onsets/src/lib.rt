@@ -24,7 +24,7 @@ fn peak_of(energies: &[f64]) -> f64
     peak
 }
 
-// The sum of some energies.
+// The sum of some energies. No `sum()`: std's begins at -0.0.
 fn sum_of(energies: &[f64]) -> f64
     ensures { result ≡ fold (Ieee.add binary64) zero64 energies.now }
 {
@@ -54,12 +54,13 @@ fn is_attack(e: &[f64; 24], peak: f64, s: usize) -> bool
 
 // The onsets before slot nts, the first from slot 4 on, each 4 or more after the one before.
 fn detect_onsets(e: &[f64; 24], peak: f64, nts: usize) -> Onsets
-    requires { nts ≤ 16 }
+    requires { nts ≤ 24 }
     ensures { result ≡ onsets_record (detect_onsets (is_attack (energy_at e.now) peak) nts) }
 {
     let mut count = 0;
     let mut slot = [0u32; Onsets::MAX_ONSETS];
     let mut free = 4;
+    // By number: a slot is asked for with those before it, and its number is what is kept.
     for s in 4..nts {
         if count < Onsets::MAX_ONSETS && free <= s && is_attack(e, peak, s) {
             slot[count] = s as u32;

@@ -1,5 +1,7 @@
 -- Writing and reading are inverse: the proofs of specs/Inverse.antt.
 use Rattle.std.specs.Prelude.{Ok}
+use Rattle.std.proofs.lemmas.Bool.{and_parts}
+use Rattle.std.proofs.lemmas.List.{nil_from_length}
 use mathlib.Core.Path.{◌≡◌, refl, ap, ◌∙◌, subst}
 use mathlib.Core.Bool.{Bool, true, false, ◌||◌, false≢true}
 use mathlib.Core.List.{List, [], ◌∷◌, ◌++◌, reverse, reverse-reverse}
@@ -17,7 +19,7 @@ use Rattle.sbr_grid.proofs.Widths.{pointer_width}
 use Rattle.sbr_grid.proofs.Laws.{class_of_code, code_lt}
 use Rattle.sbr_writer.specs.Syntax.{twos, env_code, body_bits, grid_bits}
 use Rattle.sbr_writer.specs.Write.{every, small, all_are, class_fits, fields_fit_of, writable}
-use Rattle.sbr_writer.proofs.Writable.{both, fields_told, fields_fit}
+use Rattle.sbr_writer.proofs.Writable.{fields_told, fields_fit}
 use Rattle.sbr_parse.specs.Syntax.{received, ordered, behind_counts, fix_fix, fix_var, var_fix, var_var, sbr_grid}
 use Rattle.sbr_parse.specs.Inverse.{cleared, ReadsBack, WritesBack}
 use Rattle.sbr_parse.proofs.Monad.{Back, Reads, Seen, back_then, back_map, back_flags, back_field, back_counted, back_lengths, seen_then, seen_map, seen_flags, seen_field, seen_counted, seen_lengths}
@@ -76,10 +78,10 @@ back_fixed fs h a =
 pub back_body : (c : FrameClass) (g : Grid) → g.frame_class ≡ c → fields_fit_of g ≡ true → class_fits c g ≡ true → Back (by_class c fix_fix fix_var var_fix var_var) (cleared g) (body_bits c g)
 unfolding body_bits class_fits fix_var var_fix var_var twos every
 back_body FixFix g q h k =
-    let t = both _ _ k in
+    let t = and_parts _ _ k in
     rw q (back_fixed g.freq_res t.0 t.1)
 back_body FixVar g q h k =
-    let t = both _ _ k in
+    let t = and_parts _ _ k in
     let f = fields_told g h in
     let e : length g.rel_bord_1 + 1 ≡ num_env_of g = eqb-true _ _ t.0 in
     let l : num_env_of g ≤ 4 = leb-true _ _ t.1 in
@@ -89,7 +91,7 @@ back_body FixVar g q h k =
     (rw (reverse-reverse g.freq_res) at (back_behind FixVar 0 g.var_bord_1 [] g.rel_bord_1 (num_env_of g) g.pointer (reverse g.freq_res) refl f.small1
     (omega arith) f.pointed (length-reverse g.freq_res)))))
 back_body VarFix g q h k =
-    let t = both _ _ k in
+    let t = and_parts _ _ k in
     let f = fields_told g h in
     let e : length g.rel_bord_0 + 1 ≡ num_env_of g = eqb-true _ _ t.0 in
     let l : num_env_of g ≤ 4 = leb-true _ _ t.1 in
@@ -99,8 +101,8 @@ back_body VarFix g q h k =
     (back_behind VarFix g.var_bord_0 0 g.rel_bord_0 [] (num_env_of g) g.pointer g.freq_res f.small0 refl
     (omega arith) f.pointed refl)))
 back_body VarVar g q h k =
-    let t = both _ _ k in
-    let s = both _ _ t.0 in
+    let t = and_parts _ _ k in
+    let s = and_parts _ _ t.0 in
     let f = fields_told g h in
     let m = length g.rel_bord_0 + length g.rel_bord_1 + 1 in
     let e : m ≡ num_env_of g = eqb-true _ _ s.0 in
@@ -119,7 +121,7 @@ back_body VarVar g q h k =
 pub back_grid : (g : Grid) → writable g ≡ true → Back sbr_grid (cleared g) (grid_bits g)
 unfolding sbr_grid grid_bits
 back_grid g h =
-    let t = both _ _ h in
+    let t = and_parts _ _ h in
     back_then _ (back_field 2 (class_code g.frame_class) (code_lt g.frame_class))
     (rw (class_of_code g.frame_class) (back_body g.frame_class g refl t.0 t.1))
 
@@ -197,11 +199,6 @@ seen_behind c b0 b1 j k n s l0 l1 lj lk l h q =
       );
     }))))
 
--- a count of 0 is that of no lengths
-no_lengths : (rs : List ℕ) → length rs ≡ 0 → rs ≡ []
-no_lengths [] e = refl
-no_lengths (r ∷ rs) e = absurd (omega arith)
-
 -- every body that is read is that of a record, and has at most 24 bits
 pub seen_body : (c : FrameClass) → Reads 24 (λ g u. Sent g (bits_of 2 (class_code c) ++ u)) (by_class c fix_fix fix_var var_fix var_var)
 unfolding fix_fix fix_var var_fix var_var grid_bits body_bits class_fits every twos
@@ -214,7 +211,7 @@ seen_body FixVar =
     seen_then _ _ 24 (seen_field 2) (omega arith)
     (λ b hb. seen_then _ _ 22 (seen_field 2) (omega arith)
     (λ k hk. seen_behind FixVar 0 b 0 k 20 _ (omega arith) (omega arith) (omega arith) (omega arith) (omega arith) (omega arith)
-    (λ rel0 rel1 p res h0 h1 d. rw (no_lengths rel0 h0) (
+    (λ rel0 rel1 p res h0 h1 d. rw (nil_from_length rel0 h0) (
       refl,
       rw (h1, length-reverse res, d, zero-add k, eq-eqb (k + 1) (k + 1) refl, le-leb (k + 1) 4 (omega arith)),
       rw (length-reverse res, d, h1, reverse-reverse res),
@@ -223,7 +220,7 @@ seen_body VarFix =
     seen_then _ _ 24 (seen_field 2) (omega arith)
     (λ b hb. seen_then _ _ 22 (seen_field 2) (omega arith)
     (λ j hj. seen_behind VarFix b 0 j 0 20 _ (omega arith) (omega arith) (omega arith) (omega arith) (omega arith) (omega arith)
-    (λ rel0 rel1 p res h0 h1 d. rw (no_lengths rel1 h1)
+    (λ rel0 rel1 p res h0 h1 d. rw (nil_from_length rel1 h1)
     (refl, rw (h0, d, add-zero j, eq-eqb (j + 1) (j + 1) refl, le-leb (j + 1) 4 (omega arith)), rw (d, h0)))))
 seen_body VarVar =
     seen_then _ _ 24 (seen_field 2) (omega arith)

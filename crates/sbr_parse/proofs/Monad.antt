@@ -1,5 +1,6 @@
 -- What reading takes from the bits and leaves, for each part that the readers of specs/Syntax.antt are made of.
 use Rattle.std.specs.Prelude.{Ok, Err}
+use Rattle.std.proofs.lemmas.Bool.{and_parts}
 use mathlib.Core.Path.{◌≡◌, refl, sym, ap, ◌∙◌}
 use mathlib.Core.Bool.{Bool, true, false, cond}
 use mathlib.Core.List.{List, [], ◌∷◌, ◌++◌, append_assoc, append-nil}
@@ -17,7 +18,6 @@ use Rattle.sbr_grid.specs.declared.Refusal.TheVariants.{BitsEnd, EnvelopeCount}
 use Rattle.sbr_grid.specs.Refusals.{Outcome}
 use Rattle.sbr_writer.specs.Syntax.{twos}
 use Rattle.sbr_writer.specs.Write.{every, small}
-use Rattle.sbr_writer.proofs.Writable.{both}
 use Rattle.sbr_parse.specs.Syntax.{Reader, onward, ◌followed_by◌, giving, flags, field, rel_bords, checked_count}
 
 -- m reads a from the bits u, whatever follows
@@ -145,7 +145,7 @@ pub back_lengths : (rs : List ℕ) → small rs ≡ true → Back (rel_bords (le
 unfolding rel_bords twos every
 back_lengths [] h = back_pure []
 back_lengths (r ∷ rs) h =
-    let s = both (leb r 3) (small rs) h in
+    let s = and_parts (leb r 3) (small rs) h in
     back_then _ (back_field 2 r (omega (arith, leb-true r 3 s.0))) (back_map (λ x. r ∷ x) (back_lengths rs s.1))
 
 pub seen_lengths : (k : ℕ) → Reads (2 * k) (Coded (λ rs. (length rs ≡ k) × (small rs ≡ true)) twos) (rel_bords k)

@@ -17,7 +17,6 @@ use Rattle.sbr_grid.specs.declared.FrameClass.TheVariants.{FixFix, FixVar, VarFi
 use Rattle.sbr_grid.specs.declared.Refusal.TheVariants.{BitsEnd, EnvelopeCount}
 use Rattle.sbr_grid.specs.Refusals.{Outcome, result_map}
 use Rattle.sbr_grid.specs.Grid.{by_class, class_of, ptr_bits, noise_of, first}
-use Rattle.sbr_grid.proofs.Widths.{pointer_width}
 use Rattle.sbr_parse.specs.Syntax.{Reader, ◌followed_by◌, giving, flags, field, checked_count, received, ordered, behind_counts, fix_fix, fix_var, var_fix, var_var, sbr_grid}
 use Rattle.sbr_parse.specs.Parse.{parsed, twos_of}
 use Rattle.sbr_parse.specs.declared.Parsed.{Parsed}
@@ -61,10 +60,6 @@ length-twos : (k v : ℕ) → length (twos_of k v) ≡ k
 unfolding twos_of
 length-twos zero v = refl
 length-twos (suc k) v = ap suc (length-twos k v)
-
--- a pointer has at most three bits
-pub pointer_narrow : (n : ℕ) → n ≤ 5 → ptr_bits n ≤ 3
-pointer_narrow n h = (pointer_width n).least 3 (omega arith)
 
 -- too few bits for all of them
 pub behind_short : (c : FrameClass) (b0 b1 j k w v : ℕ) → w < 2 * j + 2 * k + ptr_bits (j + k + 1) + (j + k + 1)

@@ -22,7 +22,7 @@ impl Complex {
 }
 
 // How many numbers the samples of a frame have at the least, by its slot count: what a host sizes its buffer by. 0 for a slot count that every
-// call refuses.
+// call refuses, and no `Option`: what could not fail before does not begin to.
 #[tactic(auto, using(sbr_grid::proofs::Slots::slots_few))]
 pub fn samples_needed(num_time_slots: usize) -> usize
     ensures { result ≡ cond (is_slot_count num_time_slots) (samples_needed num_time_slots) 0 }

@@ -7,7 +7,7 @@ use native.Mathlib.Omega.{arith}
 use lib.IntN.{ℤ, pos, negsuc}
 use lib.Pow.{pow-add, pow_pos, pow_mono, pow-lt, shl_lt}
 use lib.Dec.{T, lit≤, lit<}
-use lib.Ieee.{Float, nan, inf, fin, binary64, up, down, size, fits, is_nan, lt, to_bits, of_bits}
+use lib.Ieee.{Float, nan, inf, fin, binary64, up, down, size, fits, lt, to_bits, of_bits}
 use lib.Ieee.Digits.{size-lt, size-le, size_reaches}
 use lib.Ieee.Fits.{down_pos, kept-lt}
 use borrow.Author.Tests.{ltb-true, ltb-false}
@@ -127,10 +127,3 @@ scales (inf true) t h = absurd (false≢true h)
 scales (inf false) t h = (lit≤ tt, (refl, refl))
 scales (fin true m e) t h = absurd (false≢true h)
 scales (fin false m e) t h = finite_scales m e (subst T (sym t) tt) (tested m e h)
-
--- and it is no NaN
-pub not_nan : (x : Float) → lt floor64 x ≡ true → is_nan x ≡ false
-unfolding lt is_nan of_bits
-not_nan nan h = sym h
-not_nan (inf s) h = refl
-not_nan (fin s m e) h = refl

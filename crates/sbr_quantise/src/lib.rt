@@ -51,7 +51,7 @@ fn edges_attained<const N: usize>(edges: &[u64; N], part: u64) -> u64
     ensures count { result ≡ count_by (λ edge. leb edge part) edges.now }
     ensures few { result ≤ N }
 {
-    // tried: `filter(..).count()`, which branches at each edge: the fine step took 1.4 times as long on loud frames
+    // `filter(..).count()` branches at each edge: the fine step took 1.4 times as long on loud frames.
     let mut count = 0;
     for edge in edges {
         if *edge <= part {

@@ -1,5 +1,6 @@
 -- The flag of a frame, and what depends on the flag that is handed in.
 use Rattle.std.specs.Prelude.{Ok, Err}
+use Rattle.std.proofs.lemmas.Bool.{and_parts}
 use mathlib.Core.Path.{◌≡◌, refl, sym, ap, ◌∙◌}
 use mathlib.Core.Bool.{Bool, true, false}
 use mathlib.Core.List.{List}
@@ -19,7 +20,7 @@ use Rattle.sbr_grid.specs.Times.{Times, is_number, is_slot_count}
 use Rattle.sbr_grid.proofs.Number.{number_so, number_is}
 use Rattle.sbr_time_grid.specs.TimeGrid.{by_pointer, l_a_of, time_grid}
 use Rattle.sbr_time_grid.proofs.Ends.{time_passes}
-use Rattle.sbr_writer.proofs.Writable.{both, fields_told}
+use Rattle.sbr_writer.proofs.Writable.{fields_told}
 use Rattle.sbr_parse.specs.Syntax.{sbr_grid}
 use Rattle.sbr_reader.specs.declared.Carried.{Carried}
 use Rattle.sbr_reader.specs.Read.{Accepted, meets, timed, parsed, read_grid, starting}
@@ -54,7 +55,7 @@ pub flag_exactly : FlagExactly
 flag_exactly l p n c f h =
     let t = told_frame l p n c f h in
     let m = ap (λ (x : Times). x.l_a) (time_passes n f.grid f.time t.derived).value in
-    let w = fields_told f.grid (both _ _ (frame_writes l p n c f h).written.fits).0 in
+    let w = fields_told f.grid (and_parts _ _ (frame_writes l p n c f h).written.fits).0 in
     let points : f.ends_on_attack ≡ points_at_end f.grid.frame_class f.grid.pointer = t.ends ∙ rw m (by_class_lem f.grid.frame_class f.grid refl w.pointed) in
     let set : f.time.l_a ≡ pos (num_env_of f.grid) → f.ends_on_attack ≡ true = λ e. t.ends ∙ number_so f.time.l_a (num_env_of f.grid) e in
     record {

@@ -1,5 +1,6 @@
 -- Every frame that reading accepts can be written again.
 use Rattle.std.specs.Prelude.{Ok}
+use Rattle.std.proofs.lemmas.Bool.{and_parts}
 use mathlib.Core.Path.{◌≡◌, refl, ap}
 use mathlib.Core.Bool.{Bool, ◌&&◌}
 use mathlib.Core.List.{List}
@@ -18,7 +19,7 @@ use Rattle.sbr_grid.proofs.Outcomes.{unless_answered}
 use Rattle.sbr_time_grid.specs.TimeGrid.{by_pointer, t_e_of, rises, middle_border, counts_fit, borders_fit, noise_fits, accepts, time_grid}
 use Rattle.sbr_writer.specs.Syntax.{grid_bits}
 use Rattle.sbr_reader.specs.Inverse.{FrameWrites}
-use Rattle.sbr_writer.proofs.Writable.{both, writable_view}
+use Rattle.sbr_writer.proofs.Writable.{writable_view}
 use Rattle.sbr_parse.proofs.Inverse.{Sent, sent, writes_back}
 use Rattle.sbr_reader.proofs.Told.{told_frame}
 
@@ -47,10 +48,10 @@ pub time_pointer : (n : ℕ) (g : Grid) (t : Times) → time_grid n g ≡ Ok t �
 unfolding time_grid noise_fits
 time_pointer n g t h l f =
     let a = unless_answered (accepts n g) _ _ (unless_answered (is_slot_count n) _ _ h).1 in
-    let b = both (counts_fit g && borders_fit g && rises (t_e_of n g) (num_env_of g)) (noise_fits g) a.0 in
+    let b = and_parts (counts_fit g && borders_fit g && rises (t_e_of n g) (num_env_of g)) (noise_fits g) a.0 in
     let m = middle_border g in
-    let c = both (eqb g.num_noise 2 && leb 1 m) (ltb m (num_env_of g)) (rw (lt-leb (num_env_of g) 1 l) at b.1) in
-    let d = both (eqb g.num_noise 2) (leb 1 m) c.0 in
+    let c = and_parts (eqb g.num_noise 2 && leb 1 m) (ltb m (num_env_of g)) (rw (lt-leb (num_env_of g) 1 l) at b.1) in
+    let d = and_parts (eqb g.num_noise 2) (leb 1 m) c.0 in
     inside g.frame_class g refl f l (leb-true _ _ d.1) (ltb-true _ _ c.1)
 
 -- whether a class is FixFix

@@ -1,8 +1,6 @@
 -- What is known past each test of `read_grid`.
-use Rattle.std.specs.Prelude.{Ok, Err}
-use Rattle.std.specs.Result.{IsErrAnd}
-use Rattle.std.proofs.lemmas.Result.{err_from_is_err_and}
-use mathlib.Core.Path.{◌≡◌, refl, sym, ap, ◌∙◌}
+use Rattle.std.specs.Prelude.{Ok}
+use mathlib.Core.Path.{◌≡◌, sym, ap, ◌∙◌}
 use mathlib.Core.Bool.{Bool, true}
 use mathlib.Core.List.{List}
 use Prim.Native.Nat.{ℕ, ◌+◌, ◌-◌, ◌≤◌, ◌<◌}
@@ -11,12 +9,12 @@ use lib.ListN.{length, get_or}
 use Rattle.bits.specs.Room.{window_of}
 use Rattle.bits.specs.declared.Window.{Window}
 use Rattle.bits.proofs.Numbers.{length-bits_of}
-use Rattle.sbr_grid.specs.declared.Refusal.{Refusal}
 use Rattle.sbr_grid.specs.declared.TimeGrid.{TimeGrid}
 use Rattle.sbr_grid.specs.Refusals.{Outcome, result_map}
 use Rattle.sbr_grid.specs.declared.SbrGrid.{SbrGrid}
 use Rattle.sbr_grid.specs.Grid.{Grid, view_of, record_of}
 use Rattle.sbr_grid.specs.Times.{Times, is_slot_count, time_record}
+use Rattle.sbr_grid.proofs.Outcomes.{map_answered}
 use Rattle.sbr_grid.proofs.First.{first-get_or}
 use Rattle.sbr_grid.proofs.Slots.{slots_few}
 use Rattle.sbr_time_grid.specs.TimeGrid.{time_grid}
@@ -29,22 +27,6 @@ use Rattle.sbr_reader.specs.Read.{Accepted, read_grid, carrying, frame_read}
 use Rattle.sbr_reader.specs.declared.FrameRead.{FrameRead}
 use Rattle.sbr_reader.specs.declared.Carried.{Carried}
 use Rattle.sbr_reader.proofs.ReadLaws.{read-record, read_view, read_left, Leaving, leaving}
-
--- ---- outcomes, and what is handed out for them
-
--- an answer that is handed out is made of a value
-pub mapped_ok : {A B : Type 0} (f : A → B) (o : Outcome A) (b : B) → Ok b ≡ result_map f o → (a : A) × (o ≡ Ok a) × (b ≡ f a)
-mapped_ok f (Ok a) b e = (a, refl, cc e)
-mapped_ok f (Err d) b e = cc
-
--- a refusal that is handed out is the outcome's
-pub mapped_err : {A B : Type 0} (f : A → B) (o : Outcome A) (d : Refusal) → Err d ≡ result_map f o → o ≡ Err d
-mapped_err f (Ok a) d e = cc
-mapped_err f (Err c) d e = cc
-
--- a refusal that is handed on
-pub handed_on : {A : Type 0} (r : Outcome A) (e : Refusal) → IsErrAnd r (λ d. d ≡ e) → r ≡ Err e
-handed_on r e f = let p = err_from_is_err_and r f in p.1 ∙ ap Err p.2
 
 -- what is handed out for an accepted frame
 pub handed_out : (f : Accepted) (g : SbrGrid) (t : TimeGrid) (a : Bool) (q : ℕ) (z : Carried)
@@ -68,8 +50,8 @@ module _ (l : List ℕ) (q n : ℕ) (w : Window) (p : Parsed) where
 
   pub got : is_slot_count n ≡ true → w ≡ window_of l q → Ok p ≡ result_map parsed (sbr_grid (window_bits w)) → Got
   got s e h =
-      let x = mapped_ok parsed (sbr_grid (window_bits w)) p h in
-      record { grid = x.0.0; rest = x.0.1; slots = s; seen = e; syntax = ap (λ v. sbr_grid (window_bits v)) (sym e) ∙ x.1; record_is = x.2 }
+      let x = map_answered parsed (sbr_grid (window_bits w)) p h in
+      record { grid = x.0.0; rest = x.0.1; slots = s; seen = e; syntax = ap (λ v. sbr_grid (window_bits v)) (sym e) ∙ x.1.0; record_is = x.1.1 }
 
   -- what was parsed has that record
   pub viewed : (x : Got) → view_of p.grid ≡ x.grid
@@ -102,8 +84,8 @@ module _ (l : List ℕ) (q n : ℕ) (w : Window) (p : Parsed) where
 
   pub timed : (x : Got) (d : TimeGrid) → Ok d ≡ result_map time_record (time_grid n (view_of p.grid)) → Timed d
   timed x d h =
-      let t = mapped_ok time_record (time_grid n (view_of p.grid)) d h in
-      let is : time_grid n x.grid ≡ Ok t.0 = ap (time_grid n) (sym (viewed x)) ∙ t.1 in
+      let t = map_answered time_record (time_grid n (view_of p.grid)) d h in
+      let is : time_grid n x.grid ≡ Ok t.0 = ap (time_grid n) (sym (viewed x)) ∙ t.1.0 in
       let wide : w.width ≡ (window_of l q).width = ap (λ (y : Window). y.width) x.seen in
       let rest : p.left ≡ length x.rest = ap (λ (y : Parsed). y.left) x.record_is in
       let v = window_of l q in
@@ -111,10 +93,10 @@ module _ (l : List ℕ) (q n : ℕ) (w : Window) (p : Parsed) where
         got = x;
         times = t.0;
         is = is;
-        time = t.2;
+        time = t.1.1;
         few = slots_few n x.slots;
         ends = time_ends n x.grid t.0 is;
-        border = λ i b. ap (λ (y : TimeGrid). get_or y.t_e i 0) t.2 ∙ first-get_or 0 6 i t.0.t_e b;
+        border = λ i b. ap (λ (y : TimeGrid). get_or y.t_e i 0) t.1.1 ∙ first-get_or 0 6 i t.0.t_e b;
         leaves = leaving n x.grid t.0 is;
         wide = wide;
         rest = rest;

@@ -5,9 +5,7 @@ use Prim.Native.Nat.{ℕ, zero, suc, ◌+◌, ◌≤◌, ◌<◌}
 use native.Mathlib.Decide.{dec_le}
 use native.Mathlib.Numerals.{add-one}
 use native.Mathlib.Omega.{arith}
-use lib.Ieee.{Float}
 use Rattle.sbr_bands.specs.Tables.{entry}
-use Rattle.sbr_resolution.specs.Resolution.{Ready}
 
 -- borders that do not fall are at most the last
 pub borders_le : (t : List ℕ) (n : ℕ) → ((l : ℕ) → l < n → entry t l ≤ entry t (l + 1)) → (l : ℕ) → l ≤ n → entry t l ≤ entry t n
@@ -16,7 +14,3 @@ borders_le t (suc n) h l p = elim (dec_le l n) [
   | yes q ↦ omega (arith, borders_le t n (λ m r. h m (omega arith)) l q, rw (add-one n) at (h n (omega arith)))
   | no q ↦ let e : l ≡ suc n = omega arith in rw e (omega arith)
 ]
-
--- samples for a border are samples for one before it
-pub ready_before : (high low : List ℕ) (x : List Float) (a b : ℕ) → Ready high low x b → a ≤ b → Ready high low x a
-ready_before high low x a b r h = record { tables = r.tables; inside = omega (arith, r.inside); enough = omega (arith, r.enough) }

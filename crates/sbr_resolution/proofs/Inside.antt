@@ -1,4 +1,5 @@
 -- The bands of the high table inside a band of the low one, and the low bands one after another.
+use Rattle.std.proofs.lemmas.List.{take_rest}
 use mathlib.Core.Path.{◌≡◌, refl, sym, ap, subst, ◌∙◌}
 use mathlib.Core.Bool.{Bool, true, false, cond, ◌&&◌, ◌||◌, and-false}
 use mathlib.Core.List.{List, [], ◌∷◌, ◌++◌, map, append-nil}
@@ -9,7 +10,7 @@ use native.Mathlib.Omega.{arith}
 use borrow.Author.Tests.{le-leb, lt-leb, lt-ltb, le-ltb}
 use lib.Dec.{leb}
 use lib.ListN.{length, take, drop, length-take, length-drop}
-use lib.Seq.{get_or-drop, drop-drop, take_all}
+use lib.Seq.{get_or-drop, drop-drop}
 use Rattle.std.specs.List.{prefix_len}
 use Rattle.std.specs.Prelude.{nat_lt}
 use Rattle.std.proofs.lemmas.List.Sums.{prefix_len_is}
@@ -84,10 +85,6 @@ pub record Step (low rest : List ℕ) (n k : ℕ) : Type 0 where
   pub last : n + 1 < length low
   pub bands : k ≡ prefix_len (λ b. nat_lt b (entry low (n + 1))) rest
 
--- the end of a list
-tail_is : (k : ℕ) (xs : List ℕ) → take (length xs - k) (drop k xs) ≡ drop k xs
-tail_is k xs = take_all (length xs - k) (drop k xs) (omega (arith, length-drop k xs))
-
 -- an entry of the end of a list
 dropped_at : (xs : List ℕ) (i j : ℕ) → entry (drop i xs) j ≡ entry xs (i + j)
 dropped_at xs i j = get_or-drop i xs j 0
@@ -135,7 +132,7 @@ module _ (high low rest : List ℕ) (n : ℕ) (t : Tables high low) (r : Rest hi
 
     -- what is left behind them
     pub rest-behind : Rest high low (take (length rest - k) (drop k rest)) (n + 1)
-    rest-behind = rw (tail_is k rest) (record {
+    rest-behind = rw (take_rest rest k) (record {
       some = omega (arith, length-drop k rest, end-within);
       few = omega (arith, length-drop k rest, r.few);
       part =
@@ -151,7 +148,7 @@ pub step_of : (low rest : List ℕ) (n k : ℕ) → n < length (take (length low
     → k ≡ prefix_len (λ b. nat_lt b (entry (take (length low - 1) (drop 1 low)) n)) rest → Step low rest n k
 step_of low rest n k l e =
     let p : entry (take (length low - 1) (drop 1 low)) n ≡ entry low (n + 1) =
-    rw (tail_is 1 low) (let q : 1 + n ≡ n + 1 = omega arith in rw (dropped_at low 1 n, q))
+    rw (take_rest low 1) (let q : 1 + n ≡ n + 1 = omega arith in rw (dropped_at low 1 n, q))
     in
     record { last = omega (arith, length-take (length low - 1) (drop 1 low), length-drop 1 low); bands = rw p at e }
 

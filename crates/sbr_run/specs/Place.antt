@@ -3,11 +3,11 @@ use Rattle.std.specs.Prelude.{◌≡◌, Bool, List, ℕ, Float}
 use Rattle.sbr_grid.specs.Refusals.{Outcome, value_or, result_map}
 use Rattle.sbr_grid.specs.Grid.{record_of}
 use Rattle.sbr_grid.specs.Times.{time_record}
-use Rattle.sbr_reader.specs.Read.{Accepted, marks_end, carrying}
+use Rattle.sbr_reader.specs.declared.FrameRead.{FrameRead}
+use Rattle.sbr_reader.specs.Read.{Accepted, marks_end, carrying, frame_read}
 use Rattle.sbr_encoder.specs.Election.{elect}
 use Rattle.sbr_run.specs.declared.Place.{Place}
 use Rattle.sbr_run.specs.declared.Sending.{Sending}
-use Rattle.sbr_run.specs.declared.Receiving.{Receiving}
 use Rattle.sbr_run.specs.Run.{Turn, Turned, Terms, Elects, State, last_border, moved, HandsIn}
 use Rattle.sbr_run.specs.Readings.{Reading, Receiver, heard, reading_in_terms}
 
@@ -40,14 +40,9 @@ bytes_left l o = value_or (λ a. a.wrote.bytes) l o
 abbrev pub reading_from : ℕ → List ℕ → Place → Reading
 reading_from n bytes p = record { bytes = bytes; position = p.position; slots = n; carried = p.carried }
 
--- record and time grid of a frame that is read, whether it begins on an attack, and what is carried on
-abbrev pub receiving : Accepted → Receiving
-receiving f = record {
-  grid = record_of f.grid;
-  time = time_record f.time;
-  begins_on_attack = f.begins_on_attack;
-  place = place_of f.border f.ends_on_attack f.position;
-}
+-- the place behind a frame that was read
+abbrev pub behind : FrameRead → Place
+behind r = record { carried = r.carried; position = r.position }
 
 -- the place that a host hands in next: that of what was handed out, or the same again where the call is refused
 abbrev pub place_next : {A : Type 0} → (A → Place) → Place → Outcome A → Place
@@ -68,7 +63,7 @@ pub record CallsAreTurns : Type 0 where
   -- `receive_frame` with the slot count, those bytes and what the last reading left makes the reading in the run's terms
   pub in_terms : (n : ℕ) (bytes : List ℕ) (c : Receiver) → reading_from n bytes (place_of c.border c.attack c.position) ≡ reading_in_terms n bytes c
   pub keeps : (c : Receiver) (o : Outcome Accepted)
-      → place_next (λ r. r.place) (place_of c.border c.attack c.position) (result_map receiving o)
+      → place_next behind (place_of c.border c.attack c.position) (result_map frame_read o)
       ≡ place_of (heard c o).border (heard c o).attack (heard c o).position
   pub reads : (f : Accepted)
-      → ((receiving f).grid ≡ record_of f.grid) × ((receiving f).time ≡ time_record f.time) × ((receiving f).begins_on_attack ≡ f.begins_on_attack)
+      → ((frame_read f).grid ≡ record_of f.grid) × ((frame_read f).time ≡ time_record f.time) × ((frame_read f).begins_on_attack ≡ f.begins_on_attack)

@@ -3,13 +3,14 @@
 
 ghost use Rattle.std.specs.Prelude.{◌≡◌, ◌≤◌, get_or, Err};
 ghost use Rattle.sbr_grid.specs.Refusals.{result_map};
+ghost use Rattle.sbr_reader.specs.Read.{frame_read};
 ghost use Rattle.sbr_run.specs.Run.{turn};
 ghost use Rattle.sbr_run.specs.Readings.{reading};
-ghost use Rattle.sbr_run.specs.Place.{turn_from, sending, bytes_left, reading_from, receiving};
+ghost use Rattle.sbr_run.specs.Place.{turn_from, sending, bytes_left, behind, reading_from};
 
 use sbr_bands::BandTables;
 use sbr_grid::{Refusal, SbrGrid, TimeGrid};
-use sbr_reader::Carried;
+use sbr_reader::{Carried, FrameRead};
 
 // What is carried from frame to frame: the last border with the flag beside it, and the bit position.
 #[derive(Clone, Copy)]
@@ -29,15 +30,16 @@ pub struct Sending {
     pub place: Place,
 }
 
-// A frame that was read.
-#[derive(Clone, Copy)]
-pub struct Receiving {
-    pub grid: SbrGrid,
-    pub time: TimeGrid,
-    // Whether the frame begins on an attack.
-    pub begins_on_attack: bool,
-    // Where the next frame is read.
-    pub place: Place,
+// Where the frame behind one that was read is read.
+impl From<FrameRead> for Place {
+    ghost from_gives = { λ read place. place ≡ behind read };
+
+    fn from(read: FrameRead) -> Place {
+        Place {
+            carried: read.carried,
+            position: read.position,
+        }
+    }
 }
 
 // A transmitter's turn: election from the carried border, time grid of the record, its writing at the position, which clears the rest of the byte in
@@ -79,17 +81,8 @@ pub fn receive_frame(
     bytes: &[u8],
     num_time_slots: usize,
     place: Place,
-) -> Result<Receiving, Refusal>
-    ensures { result ≡ result_map receiving (reading (reading_from num_time_slots bytes.now place)) }
+) -> Result<FrameRead, Refusal>
+    ensures { result ≡ result_map frame_read (reading (reading_from num_time_slots bytes.now place)) }
 {
-    let read = sbr_reader::read_grid(bytes, place.position, num_time_slots, place.carried)?;
-    Ok(Receiving {
-        grid: read.grid,
-        time: read.time,
-        begins_on_attack: read.begins_on_attack,
-        place: Place {
-            carried: read.carried,
-            position: read.position,
-        },
-    })
+    sbr_reader::read_grid(bytes, place.position, num_time_slots, place.carried)
 }

@@ -65,12 +65,12 @@ abbrev Inside : WantedBorder → Type 0
 Inside b = (1 ≤ b.slot) × (b.slot ≤ 32)
 
 -- wanted borders with such a list are in the frame
-in_frame : (n : ℕ) (bs ws : List WantedBorder) → first (onset_at 0) n bs ≡ ws → 1 ≤ n → n ≤ 4
+in_frame : (n : ℕ) (bs ws : List WantedBorder) → first (onset_at 0) n bs ≡ ws → n ≤ 4
     → ((i : ℕ) → i < n → Inside (get_or ws i (onset_at 0))) → InFrame n bs
-in_frame n bs ws e g h f =
+in_frame n bs ws e h f =
     let at : (i : ℕ) → i < n → Inside (get_or bs i (onset_at 0)) =
     λ i l. rw (← first-get_or (onset_at 0) n i bs l, e) (f i l) in
-    record { some = g; few = h; from = λ i l. (at i l).0; by = λ i l. (at i l).1 }
+    record { few = h; from = λ i l. (at i l).0; by = λ i l. (at i l).1 }
 
 -- the onsets are in such slots
 bare-inside : (n : ℕ) (os : List ℕ) (k lo i : ℕ) → 1 ≤ lo → n ≤ 16 → OnsetsFrom k lo n os → i < length os → Inside (get_or (bare os) i (onset_at 0))
@@ -84,12 +84,12 @@ isolated-inside n (s ∷ os) (suc zero) m h l p = omega (arith, h.0, h.1)
 isolated-inside n (s ∷ os) (suc (suc i)) m h l p = bare-inside n os 2 (s + 4) i (omega arith) m h.2 (omega arith)
 
 -- the onsets as wanted borders are in the frame
-pub bare_framed : {n lead : ℕ} (o : Onsets) (bs : List WantedBorder) → Case n lead (onset_list o) → 1 ≤ o.count
+pub bare_framed : {n lead : ℕ} (o : Onsets) (bs : List WantedBorder) → Case n lead (onset_list o)
     → first (onset_at 0) o.count bs ≡ bare (onset_list o) → InFrame o.count bs
-bare_framed {n} {lead} o bs c h e =
+bare_framed {n} {lead} o bs c e =
     let f = bounds n lead o c in
     let l = first-length 0 o.count o.slot in
-    in_frame o.count bs (bare (onset_list o)) e h (omega arith) (λ i j. bare-inside n (onset_list o) 3 4 i (omega arith) f.frame.most c.onsets (omega arith))
+    in_frame o.count bs (bare (onset_list o)) e (omega arith) (λ i j. bare-inside n (onset_list o) 3 4 i (omega arith) f.frame.most c.onsets (omega arith))
 
 -- the same with the isolating border
 pub isolated_framed : {n lead : ℕ} (o : Onsets) (bs : List WantedBorder) → Case n lead (onset_list o) → 1 ≤ o.count
@@ -97,7 +97,7 @@ pub isolated_framed : {n lead : ℕ} (o : Onsets) (bs : List WantedBorder) → C
 isolated_framed {n} {lead} o bs c h e =
     let f = bounds n lead o c in
     let l = first-length 0 o.count o.slot in
-    in_frame (o.count + 1) bs (isolated (onset_list o)) e (omega arith) (omega arith)
+    in_frame (o.count + 1) bs (isolated (onset_list o)) e (omega arith)
     (λ i j. isolated-inside n (onset_list o) i f.frame.most c.onsets (omega arith) (omega arith))
 
 -- ---- the choice between the two searches

@@ -1,6 +1,6 @@
 -- Lengths between borders that are at most 33 are bytes.
 use mathlib.Core.Path.{◌≡◌, refl, ap, ◌∙◌}
-use mathlib.Core.Bool.{Bool, true, false, ◌&&◌}
+use mathlib.Core.Bool.{true}
 use mathlib.Core.List.{List, [], ◌∷◌, map, reverse}
 use Prim.Native.Nat.{ℕ, zero, suc, ◌-◌, ◌≤◌}
 use native.Mathlib.Omega.{arith}
@@ -8,6 +8,7 @@ use borrow.Author.Tests.{leb-true}
 use lib.ListN.{length, take, drop}
 use Rattle.std.specs.Prelude.{leb, min}
 use Rattle.std.specs.List.{list_all}
+use Rattle.std.proofs.lemmas.Bool.{and_parts}
 use Rattle.std.proofs.lemmas.List.{reverse-append}
 use Rattle.std.proofs.lemmas.List.Folds.{list_all-append}
 use Rattle.sbr_borders.specs.Borders.{steps_up, steps_down, leading_steps, trailing_steps}
@@ -16,31 +17,25 @@ use Rattle.sbr_borders.specs.Borders.{steps_up, steps_down, leading_steps, trail
 abbrev pub near : List ℕ → Type 0
 near bs = list_all (λ b. leb b 33) bs ≡ true
 
--- a test of two has both
-split : (a b : Bool) → (a && b) ≡ true → (a ≡ true) × (b ≡ true)
-split true true h = (refl, refl)
-split true false h = (refl, h)
-split false b h = let z : ◌≡◌ {A = ℕ} 0 1 = cc in absurd (omega arith)
-
 -- so are the first k
 near_take : (k : ℕ) (bs : List ℕ) → near bs → near (take k bs)
 near_take zero bs h = refl
 near_take (suc k) [] h = refl
 near_take (suc k) (b ∷ bs) h =
-    let s = split (leb b 33) (list_all (λ b. leb b 33) bs) h in
+    let s = and_parts (leb b 33) (list_all (λ b. leb b 33) bs) h in
     rw s.0 (near_take k bs s.1)
 
 -- and the others
 near_drop : (k : ℕ) (bs : List ℕ) → near bs → near (drop k bs)
 near_drop zero bs h = h
 near_drop (suc k) [] h = refl
-near_drop (suc k) (b ∷ bs) h = near_drop k bs (split (leb b 33) (list_all (λ b. leb b 33) bs) h).1
+near_drop (suc k) (b ∷ bs) h = near_drop k bs (and_parts (leb b 33) (list_all (λ b. leb b 33) bs) h).1
 
 -- last first too
 near_reverse : (bs : List ℕ) → near bs → near (reverse bs)
 near_reverse [] h = refl
 near_reverse (b ∷ bs) h =
-    let s = split (leb b 33) (list_all (λ b. leb b 33) bs) h in
+    let s = and_parts (leb b 33) (list_all (λ b. leb b 33) bs) h in
     ap (list_all (λ b. leb b 33)) (reverse-append (b ∷ []) bs) ∙ list_all-append (λ b. leb b 33) (reverse bs) (b ∷ []) ∙ rw (near_reverse bs s.1, s.0) refl
 
 -- a number up to 255 is its byte
@@ -52,7 +47,7 @@ up_bytes : (p : ℕ) (bs : List ℕ) → near bs → map (λ n. min n 255) (step
 unfolding steps_up
 up_bytes p [] h = refl
 up_bytes p (b ∷ bs) h =
-    let s = split (leb b 33) (list_all (λ b. leb b 33) bs) h in
+    let s = and_parts (leb b 33) (list_all (λ b. leb b 33) bs) h in
     rw (byte (b - p) (omega (arith, leb-true b 33 s.0))) (ap {B = List ℕ} (λ l. (b - p) ∷ l) (up_bytes b bs s.1))
 
 -- the lengths down
@@ -60,7 +55,7 @@ down_bytes : (t : ℕ) (bs : List ℕ) → t ≤ 255 → near bs → map (λ n. 
 unfolding steps_down
 down_bytes t [] k h = refl
 down_bytes t (b ∷ bs) k h =
-    let s = split (leb b 33) (list_all (λ b. leb b 33) bs) h in
+    let s = and_parts (leb b 33) (list_all (λ b. leb b 33) bs) h in
     rw (byte (t - b) (omega arith)) (ap {B = List ℕ} (λ l. (t - b) ∷ l) (down_bytes b bs (omega (arith, leb-true b 33 s.0)) s.1))
 
 -- the leading lengths

@@ -1,4 +1,4 @@
--- The search by its loops: the counts of leading lengths, the ends, the turns.
+-- The search by its loops: the ends, the turns.
 use mathlib.Core.Path.{◌≡◌, refl, sym, ap, ◌∙◌}
 use mathlib.Core.Bool.{Bool, true, false, cond, and-false}
 use mathlib.Core.List.{List, [], ◌∷◌, map}
@@ -14,7 +14,10 @@ use Rattle.sbr_grid.proofs.First.{first-replicate}
 use Rattle.sbr_borders.specs.declared.WantedBorder.{WantedBorder}
 use Rattle.sbr_search.specs.Search.{Best, beats, try_ends, try_shifts, try_from, search}
 use Rattle.sbr_borders.specs.Borders.{places, prices, rises_from, last_or, fit, next_shifts, onset_at}
-use Rattle.sbr_borders.proofs.FitCounts.{left}
+
+-- what is left of n at k, as one more than what is left at k + 1
+left : (n k : ℕ) → k < n → n - k ≡ suc (n - (k + 1))
+left n k h = omega arith
 
 module _ (over n lead : ℕ) (is bs : List ℕ) (c : ℕ) (best : Option Best) where
   -- the end is not past the last border
@@ -29,12 +32,12 @@ module _ (over n lead : ℕ) (is bs : List ℕ) (c : ℕ) (best : Option Best) w
 
   module _ (h : last_or lead bs < n + over) (e : beats (c + over) best ≡ true) where
     -- no count of leading lengths reaches every border
-    pub end-unfit : fit 4 0 lead (n + over) bs ≡ None → best ≡ try_ends 1 over n lead is bs c best
+    pub end-unfit : fit lead (n + over) bs ≡ None → best ≡ try_ends 1 over n lead is bs c best
     unfolding try_ends
     end-unfit f = rw (f, lt-ltb (last_or lead bs) (n + over) h, e)
 
     -- a cheaper plan
-    pub end-fit : (k : ℕ) → fit 4 0 lead (n + over) bs ≡ Some k
+    pub end-fit : (k : ℕ) → fit lead (n + over) bs ≡ Some k
         → Some (record { total = c + over; plan = record { shifts = is; over = over; leading = k } }) ≡ try_ends 1 over n lead is bs c best
     unfolding try_ends
     end-fit k f = rw (f, lt-ltb (last_or lead bs) (n + over) h, e)

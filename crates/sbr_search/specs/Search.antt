@@ -31,7 +31,7 @@ try_ends zero over n lead is bs c best = best
 try_ends (suc j) over n lead is bs c best =
     try_ends j (suc over) n lead is bs c
     (cond (ltb (last_or lead bs) (n + over) && beats (c + over) best)
-    (keep_plan is over (c + over) best (fit 4 0 lead (n + over) bs)) best)
+    (keep_plan is over (c + over) best (fit lead (n + over) bs)) best)
 
 unfoldable pub try_shifts : ℕ → ℕ → List WantedBorder → List ℕ → Option Best → Option Best
 try_shifts n lead ws is best =

@@ -16,7 +16,7 @@ ghost use Rattle.sbr_search.specs.Cheapest.{best_of};
 pub use attacks::Attacks;
 use cheapest::Cheapest;
 use sbr_borders::{Wanted, WantedBorder};
-use sbr_build::Frame;
+use sbr_build::{Frame, Slots};
 use sbr_grid::SbrGrid;
 
 // Two shifts for each of three onsets, three for the isolating border.
@@ -40,17 +40,17 @@ fn try_end(
     over: u8,
     frame: Frame,
     shifts: &[u32; Wanted::MAX_WANTED],
-    borders: &[u32],
+    borders: &Slots<u32>,
     cost: u32,
     best: Option<Cheapest>,
 ) -> Option<Cheapest>
-    requires { (over ≤ 3) × (1 ≤ length borders.now) × (length borders.now ≤ 4) × (cost ≤ 8) }
+    requires { (over ≤ 3) × (cost ≤ 8) }
     ensures { (k : ℕ) → option_map (best_of k) result ≡ try_ends 1 over frame.nts frame.lead (first 0 k shifts.now) borders.now cost (option_map (best_of k) best) }
 {
     let lead = u32::from(frame.lead);
     let t = u32::from(frame.nts + over);
     let total = cost + u32::from(over);
-    if t <= sbr_borders::last_border(borders) || !is_cheaper(total, best) {
+    if t <= sbr_borders::last_border(lead, borders.as_slice()) || !is_cheaper(total, best) {
         return best;
     }
     match sbr_borders::fitting(lead, t, borders) {
@@ -77,14 +77,14 @@ fn try_shifts(
     if !is_cheaper(cost, best) {
         return best;
     }
-    let placed = w.borders_of(shifts);
-    let borders = placed.as_slice();
-    if !sbr_borders::rises_from(u32::from(frame.lead), borders) {
+    let borders = w.borders_of(shifts);
+    if !sbr_borders::rises_from(u32::from(frame.lead), borders.as_slice()) {
         return best;
     }
     let mut now = best;
+    // Ends are numbers, the earliest first; a fold would hand the best so far on by a closure with the same call.
     for over in 0..=SbrGrid::MAX_VAR_BORD {
-        now = try_end(over, frame, shifts, borders, cost, now);
+        now = try_end(over, frame, shifts, &borders, cost, now);
     }
     now
 }
@@ -95,6 +95,7 @@ fn varvar_from_borders(w: &Wanted, frame: Frame) -> Option<Cheapest>
 {
     let mut shifts = [0u32; Wanted::MAX_WANTED];
     let mut best = None;
+    // The count bounds the loop alone: the last shifts have no next.
     for _tried in 0..MAX_SHIFTS {
         best = try_shifts(w, &shifts, frame, best);
         match sbr_borders::next_shifts(w.borders(), &shifts) {

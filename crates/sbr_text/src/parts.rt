@@ -1,10 +1,10 @@
 // A line of text while it is read, byte by byte.
-ghost use Rattle.std.specs.Prelude.{◌≡◌, ◌≤◌, ◌-◌};
-ghost use Rattle.sbr_text.specs.Parts.{grown, is_open, signed_of, pushed, no_parts, with_digit, with_minus, may_name, with_letter, with_flag, with_number, closed, part_after, takes_numbers, stroked, read_byte, slots_of, kind_of};
+ghost use Rattle.std.specs.Prelude.{◌≡◌};
+ghost use Rattle.sbr_text.specs.Parts.{grown, is_open, signed_of, no_parts, with_digit, with_minus, may_name, with_letter, with_flag, with_number, closed, part_after, takes_numbers, stroked, read_byte, slots_of, kind_of};
 ghost use Rattle.sbr_text.specs.Code.{parts_of};
+ghost use Rattle.sbr_text.specs.Items.{item_list};
 
-use crate::{Kind, MAX_BORDERS, MAX_FLAGS, TextLine};
-use arrayvec::ArrayVec;
+use crate::{Items, Kind, TextLine};
 
 // The parts of a line, by what a number is there; in the last one letters of resolutions follow.
 #[derive(Clone, Copy, Debug, PartialEq, Eq)]
@@ -35,7 +35,7 @@ impl Part {
     }
 }
 
-// A number that is being read: its sign, whether it has a digit yet, its value so far.
+// A number that is being read: its sign, whether it has a digit yet, its value so far; with none yet it is 0, which a digit is put behind.
 #[derive(Clone, Copy, Default)]
 pub struct Number {
     pub minus: bool,
@@ -78,7 +78,7 @@ impl Number {
 }
 
 // What stands in a line so far.
-#[derive(Drop)]
+#[derive(Clone, Copy)]
 pub struct Parts {
     // Nothing was found that no line has.
     good: bool,
@@ -86,20 +86,11 @@ pub struct Parts {
     class: bool,
     part: Part,
     number: Number,
-    borders: ArrayVec<i32, MAX_BORDERS>,
+    borders: Items<i32, { TextLine::MAX_BORDERS }>,
     // How many marks there are, at most 2, and the last one.
     marks: u8,
     mark: i32,
-    flags: ArrayVec<bool, MAX_FLAGS>,
-}
-
-// An item behind the others; left out where there is no room.
-fn push<T: Drop, const N: usize>(items: &mut ArrayVec<T, N>, item: T)
-    ensures { items.new.items ≡ pushed N items.old.items item }
-{
-    if items.len() < N {
-        items.push(item);
-    }
+    flags: Items<bool, { TextLine::MAX_FLAGS }>,
 }
 
 impl Parts {
@@ -112,10 +103,10 @@ impl Parts {
             class: false,
             part: Part::Borders,
             number: Number::default(),
-            borders: ArrayVec::new(),
+            borders: Items::new(),
             marks: 0,
             mark: 0,
-            flags: ArrayVec::new(),
+            flags: Items::new(),
         }
     }
 
@@ -161,7 +152,7 @@ impl Parts {
         ensures { parts_of result ≡ with_flag (parts_of self) high }
     {
         self.good = self.good && self.part == Part::Flags;
-        push(&mut self.flags, high);
+        self.flags.push(high);
         self
     }
 
@@ -171,7 +162,7 @@ impl Parts {
     {
         self.number = Number::default();
         match self.part {
-            Part::Borders => push(&mut self.borders, z),
+            Part::Borders => self.borders.push(z),
             Part::Mark => {
                 self.marks = self.marks.saturating_add(1).min(2);
                 self.mark = z;
@@ -244,22 +235,15 @@ impl Parts {
     // What the line says.
     pub fn text_line(self) -> TextLine
         ensures kind { result.kind ≡ kind_of (parts_of self) }
-        ensures borders { result.borders.items ≡ (parts_of self).borders }
+        ensures borders { item_list result.borders ≡ (parts_of self).borders }
         ensures mark { result.mark ≡ (parts_of self).mark }
-        ensures flags { result.flags.items ≡ (parts_of self).flags }
+        ensures flags { item_list result.flags ≡ (parts_of self).flags }
     {
-        let kind = self.kind();
-        let Parts {
-            borders,
-            mark,
-            flags,
-            ..
-        } = self;
         TextLine {
-            kind,
-            borders,
-            mark,
-            flags,
+            kind: self.kind(),
+            borders: self.borders,
+            mark: self.mark,
+            flags: self.flags,
         }
     }
 }

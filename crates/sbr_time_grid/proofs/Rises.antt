@@ -1,4 +1,4 @@
--- Laws of `rises`: one number more, the two ways that the test ends, and how far numbers that rise are apart.
+-- Laws of `rises`: where the test fails, how far numbers that rise are apart, and the test of a list.
 use Rattle.std.specs.Prelude.{nat_lt}
 use Rattle.std.specs.List.{list_all, zip}
 use mathlib.Core.Path.{◌≡◌, refl, ◌∙◌}
@@ -10,13 +10,8 @@ use Prim.Native.Nat.{ℕ, zero, suc, ◌+◌, ◌-◌, ◌≤◌, ◌<◌}
 use native.Mathlib.Omega.{arith}
 use native.Mathlib.Decide.{dec_le}
 use native.Mathlib.Numerals.{add-one}
-use borrow.Author.Tests.{lt-ltb, le-ltb}
+use borrow.Author.Tests.{le-ltb}
 use Rattle.sbr_time_grid.specs.TimeGrid.{rises}
-
--- borders that rise, and one above the last of them, rise
-pub rises_more : (f : ℕ → ℕ) (k : ℕ) → rises f k ≡ true → f k < f (k + 1) → rises f (k + 1) ≡ true
-unfolding rises
-rises_more f k e h = rw (add-one, e, lt-ltb (f k) (f (suc k)) (rw (← add-one k) h))
 
 -- one step of the next law
 fails : (f : ℕ → ℕ) (k l : ℕ) → l < suc k → f (l + 1) ≤ f l → (l < k → false ≡ rises f k) → Dec (suc l ≤ k) → false ≡ rises f (suc k)

@@ -1,5 +1,5 @@
 // Envelope borders.
-ghost use Rattle.std.specs.Prelude.{◌≡◌, ◌&&◌, ℕ, ◌+◌, ◌-◌, ◌*◌, ◌≤◌, ◌<◌, leb, nat_lt, get_or, drop};
+ghost use Rattle.std.specs.Prelude.{◌≡◌, ◌&&◌, ℕ, ◌+◌, ◌-◌, ◌*◌, ◌≤◌, ◌<◌, leb, nat_lt, get_or, drop, replicate};
 ghost use Rattle.std.specs.List.{list_all, zip};
 ghost use Rattle.sbr_grid.specs.Grid.{by_class, first, view_of};
 ghost use Rattle.sbr_time_grid.specs.TimeGrid.{nint, slots, abs_bord_lead, abs_bord_trail, n_rel_lead, n_rel_trail, rel_bord_lead, rel_bord_trail, slot_sum, list_from, t_e_of, counts_fit, borders_fit};
@@ -132,7 +132,8 @@ impl Frame {
         }
     }
 
-    // The borders from the first to the last that a leading length gives; the other places as they were.
+    // The borders from the first to the last that a leading length gives; the other places as they were. They are written by number: of places
+    // behind `iter_mut().zip(..)` a proof knows nothing.
     fn leading(&self, t: &mut [u32; TimeGrid::MAX_BORDERS])
         ensures borders { let g = view_of self.now.grid in (j : ℕ) → j ≤ n_rel_lead g → get_or t.new j 0 ≡ abs_bord_lead g + slot_sum (rel_bord_lead self.now.num_slots g) j }
         ensures behind { (j : ℕ) → n_rel_lead (view_of self.now.grid) < j → get_or t.new j 0 ≡ get_or t.old j 0 }
@@ -164,18 +165,17 @@ impl Frame {
         }
     }
 
-    // All borders; the places behind them are 0.
-    pub fn t_e(&self) -> [u32; TimeGrid::MAX_BORDERS]
-        ensures { result ≡ first 0 6 (list_from (t_e_of self.now.num_slots (view_of self.now.grid)) 0 (self.now.grid.num_env + 1)) }
+    // All borders, in places that are 0; those behind the borders stay 0. An array handed out would be copied.
+    pub fn t_e(&self, t: &mut [u32; TimeGrid::MAX_BORDERS])
+        requires { t.old ≡ replicate 6 0 }
+        ensures { t.new ≡ first 0 6 (list_from (t_e_of self.now.num_slots (view_of self.now.grid)) 0 (self.now.grid.num_env + 1)) }
     {
-        let mut t = [0; TimeGrid::MAX_BORDERS];
-        self.leading(&mut t);
-        self.trailing(&mut t);
-        t
+        self.leading(t);
+        self.trailing(t);
     }
 }
 
-// Each border is above the one before it.
+// Each border is above the one before it. sbr_bands has the same of bytes: one function over both types would name their order by a bound of its own.
 pub fn rises(t: &[u32]) -> bool
     ensures { result ≡ list_all (λ p. nat_lt p.0 p.1) (zip t.now (drop 1 t.now)) }
 {

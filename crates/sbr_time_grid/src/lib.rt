@@ -27,7 +27,8 @@ pub fn derive_time_grid(grid: SbrGrid, num_time_slots: usize) -> Result<TimeGrid
         grid,
         num_slots: num_time_slots as u32,
     };
-    let t_e = frame.t_e();
+    let mut t_e = [0; TimeGrid::MAX_BORDERS];
+    frame.t_e(&mut t_e);
     if !border::rises(&t_e[..=grid.num_env]) {
         return Err(Refusal::TimeGrid);
     }

@@ -18,7 +18,8 @@ use Rattle.sbr_grid.specs.declared.SbrGrid.{SbrGrid}
 use Rattle.sbr_grid.proofs.First.{first-length}
 use Rattle.sbr_grid.proofs.Widths.{pointer_width}
 use Rattle.bits.proofs.Numbers.{length-bits_of}
-use Rattle.sbr_writer.proofs.Writable.{both, told, one_told, two_told, fields_told, fix-var_view, var-fix_view, var-var_view}
+use Rattle.std.proofs.lemmas.Bool.{and_parts}
+use Rattle.sbr_writer.proofs.Writable.{told, one_told, two_told, fields_told, fix-var_view, var-fix_view, var-var_view}
 
 -- what a class sends before its flags and as its flags is what it sends
 pub body_parts : (k : FrameClass) (g : Grid) → class_fits k g ≡ true → before_flags k g ++ sent_flags k g.freq_res ≡ body_bits k g
@@ -47,7 +48,7 @@ pub record OneSide (g : SbrGrid) (bord n : ℕ) (rel : List ℕ) : Type 0 where
 
 pub fixvar_told : (g : SbrGrid) → writable (view_of g) ≡ true → g.frame_class ≡ FixVar → OneSide g g.var_bord_1 g.num_rel_1 (first 0 g.num_rel_1 g.rel_bord_1)
 fixvar_told g h e =
-    let b = both _ _ h in
+    let b = and_parts _ _ h in
     let t = told g b.0 in
     let k : class_fits FixVar (view_of g) ≡ true = ap (λ k. class_fits k (view_of g)) (sym e) ∙ b.1 in
     let c = one_told g.num_rel_1 g.num_env (sym (fix-var_view g) ∙ k) in
@@ -55,7 +56,7 @@ fixvar_told g h e =
 
 pub varfix_told : (g : SbrGrid) → writable (view_of g) ≡ true → g.frame_class ≡ VarFix → OneSide g g.var_bord_0 g.num_rel_0 (first 0 g.num_rel_0 g.rel_bord_0)
 varfix_told g h e =
-    let b = both _ _ h in
+    let b = and_parts _ _ h in
     let t = told g b.0 in
     let k : class_fits VarFix (view_of g) ≡ true = ap (λ k. class_fits k (view_of g)) (sym e) ∙ b.1 in
     let c = one_told g.num_rel_0 g.num_env (sym (var-fix_view g) ∙ k) in

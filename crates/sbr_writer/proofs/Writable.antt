@@ -1,8 +1,9 @@
 -- What the tests of `writable` say, and the loops that make them.
-use mathlib.Core.Path.{◌≡◌, refl, ◌∙◌}
+use mathlib.Core.Path.{◌≡◌, ◌∙◌}
 use Rattle.std.proofs.Math.Bool.{and_assoc}
+use Rattle.std.proofs.lemmas.Bool.{and_parts}
 use mathlib.Core.Bool.{Bool, true, false, ◌&&◌, ◌||◌}
-use mathlib.Core.List.{List, [], ◌∷◌}
+use mathlib.Core.List.{List}
 use Prim.Native.Nat.{ℕ, zero, suc, ◌+◌, ◌≤◌}
 use native.Mathlib.Omega.{arith}
 use borrow.Author.Tests.{leb-true, eqb-true, le-leb}
@@ -17,23 +18,8 @@ use Rattle.sbr_grid.proofs.Laws.{lengths, view_record}
 use Rattle.bits.proofs.Numbers.{length-bits_of}
 use Rattle.sbr_grid.proofs.Widths.{pointer_width}
 use Rattle.sbr_writer.specs.Syntax.{body_bits, grid_bits}
-use Rattle.sbr_writer.specs.Write.{every, small, all_are, class_fits, numbers_fit, lists_fit, fields_fit_of, writable}
+use Rattle.sbr_writer.specs.Write.{small, all_are, class_fits, numbers_fit, lists_fit, fields_fit_of, writable}
 use Rattle.sbr_writer.proofs.Gather.{length-twos}
-
--- both sides of a test that passed
-pub both : (a b : Bool) → (a && b) ≡ true → (a ≡ true) × (b ≡ true)
-both true b e = (refl, e)
-both false b e = (e, cc)
-
-pub and-false : (a : Bool) → (a && false) ≡ false
-and-false true = refl
-and-false false = refl
-
-pub small_at : (xs : List ℕ) (i : ℕ) → small xs ≡ true → get_or xs i 0 ≤ 3
-unfolding every
-small_at [] i e = omega arith
-small_at (x ∷ xs) zero e = leb-true x 3 (both (leb x 3) (small xs) e).0
-small_at (x ∷ xs) (suc i) e = small_at xs i (both (leb x 3) (small xs) e).1
 
 -- what fields_fit_of tests
 pub record Fields (g : Grid) : Type 0 where
@@ -51,14 +37,14 @@ pub record Fields (g : Grid) : Type 0 where
 pub fields_told : (g : Grid) → fields_fit_of g ≡ true → Fields g
 unfolding fields_fit_of
 fields_told g h =
-    let a = both _ _ h in
-    let b = both _ _ a.0 in
-    let c = both _ _ b.0 in
-    let d = both _ _ c.0 in
-    let e = both _ _ d.0 in
-    let i = both _ _ e.0 in
-    let j = both _ _ i.0 in
-    let k = both _ _ j.0 in
+    let a = and_parts _ _ h in
+    let b = and_parts _ _ a.0 in
+    let c = and_parts _ _ b.0 in
+    let d = and_parts _ _ c.0 in
+    let e = and_parts _ _ d.0 in
+    let i = and_parts _ _ e.0 in
+    let j = and_parts _ _ i.0 in
+    let k = and_parts _ _ j.0 in
     record {
       some = leb-true _ _ k.0;
       most = leb-true _ _ k.1;
@@ -88,7 +74,7 @@ fields_fit g f =
 
 -- a writable record is the view of the record that is handed out for it
 pub writable_view : (g : Grid) → writable g ≡ true → view_of (record_of g) ≡ g
-writable_view g h = let f = fields_told g (both _ _ h).0 in view_record g f.most f.rel0 f.rel1
+writable_view g h = let f = fields_told g (and_parts _ _ h).0 in view_record g f.most f.rel0 f.rel1
 
 -- the tests in the record's own numbers
 pub fields_view : (g : SbrGrid) → fields_fit_of (view_of g) ≡ (
@@ -180,12 +166,12 @@ first_flag (suc n) fl e = first-get_or false (suc n) 0 fl (omega arith)
 
 -- what the tests of the counts say
 pub one_told : (k n : ℕ) → (eqb (k + 1) n && leb n 4) ≡ true → (k + 1 ≡ n) × (n ≤ 4)
-one_told k n e = let h = both (eqb (k + 1) n) (leb n 4) e in (eqb-true (k + 1) n h.0, leb-true n 4 h.1)
+one_told k n e = let h = and_parts (eqb (k + 1) n) (leb n 4) e in (eqb-true (k + 1) n h.0, leb-true n 4 h.1)
 
 pub two_told : (j k n : ℕ) → (eqb (j + k + 1) n && leb j 3 && leb k 3) ≡ true → (j + k + 1 ≡ n) × (j ≤ 3) × (k ≤ 3)
 two_told j k n e =
-    let h = both _ (leb k 3) e in
-    let i = both (eqb (j + k + 1) n) (leb j 3) h.0 in
+    let h = and_parts _ (leb k 3) e in
+    let i = and_parts (eqb (j + k + 1) n) (leb j 3) h.0 in
     (eqb-true (j + k + 1) n i.0, leb-true j 3 i.1, leb-true k 3 h.1)
 
 -- a record that can be written has at most 26 bits
@@ -206,5 +192,5 @@ length_body VarVar g a b =
 pub length_grid : (g : Grid) → writable g ≡ true → length (grid_bits g) ≤ 26
 unfolding grid_bits
 length_grid g e =
-    let t = both _ _ e in
+    let t = and_parts _ _ e in
     simp (length-append, length-bits_of) (omega (arith, length_body g.frame_class g t.0 t.1))

@@ -34,7 +34,7 @@ fn joined_flags(flags: &[bool]) -> u32
     flags.iter().fold(0, |v, f| v << 1 | u32::from(*f))
 }
 
-// The same, the last the highest.
+// The same, the last the highest: one function for both would take an iterator of either end, for a line each.
 fn joined_back(flags: &[bool]) -> u32
     ensures { result ≡ joined_flags (reverse flags.now) }
 {

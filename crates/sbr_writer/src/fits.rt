@@ -58,7 +58,6 @@ fn is_sent_count(num_env: usize) -> bool
 // All flags of FixFix are the one that it sends.
 #[tactic(auto, using(crate::proofs::Writable::fixfix_view, crate::proofs::Writable::first_flag))]
 fn fix_fix_fits(g: SbrGrid) -> bool
-    requires { g.num_env ≤ 5 }
     ensures { result ≡ class_fits FrameClass.FixFix (view_of g) }
 {
     is_sent_count(g.num_env) && all_are(g.freq_res[0], g.resolutions())
@@ -84,7 +83,7 @@ fn two_sides_fit(leading: usize, trailing: usize, num_env: usize) -> bool
 
 // The counts are those that the class can send.
 fn class_fits(g: SbrGrid) -> bool
-    requires { (g.num_env ≤ 5) × (g.num_rel_0 ≤ 4) × (g.num_rel_1 ≤ 4) }
+    requires { (g.num_rel_0 ≤ 4) × (g.num_rel_1 ≤ 4) }
     ensures { result ≡ class_fits g.frame_class (view_of g) }
 {
     match g.frame_class {

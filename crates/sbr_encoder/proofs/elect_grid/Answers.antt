@@ -13,10 +13,10 @@ returns-in_err-samples c =
     rw (elect_framed a.num_time_slots a.tables.high.now a.tables.low.now a.x.now a.t_e_last_prev a.variable_borders, sym c.in_err-samples.ensures.tests)
     (passed_on _ _ c.from_residual.ensures.1)
 
-pub elected-requires : goal.elected-requires
-elected-requires c =
+pub invariant_of-frame : goal.invariant_of-frame
+invariant_of-frame c =
     let p = framed_passed _ _ _ _ _ c.in_ok-samples.ensures.tests in
-    record { count = p.0; slots = p.1 }
+    record { counted = p.0; framed = p.1 }
 
 pub returns : goal.returns
 returns c =

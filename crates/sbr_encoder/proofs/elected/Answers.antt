@@ -8,13 +8,14 @@ use Rattle.sbr_encoder.proofs.elected.Goals.{After-choose-plan}
 
 -- what was chosen
 plan : (c : After-choose-plan)
-    → Plan (columns c.args.samples.x.now) c.args.samples.tables.high.now c.args.samples.tables.low.now c.args.num_time_slots c.args.t_e_last_prev c.args.variable_borders
+    → Plan (columns c.args.frame.samples.x.now) c.args.frame.samples.tables.high.now c.args.frame.samples.tables.low.now c.args.frame.num_time_slots c.args.t_e_last_prev c.args.variable_borders
     c.choose-plan.result.grid c.choose-plan.result.transient
 plan c =
-    let s = c.args.samples in
+    let f = c.args.frame in
+    let s = f.samples in
     let e = rw (to_z-of_z w32 _ c.ranges.t_e_last_prev) at c.choose-plan.ensures in
-    planned (columns s.x.now) s.tables.high.now s.tables.low.now c.args.num_time_slots c.args.t_e_last_prev c.args.variable_borders c.energies-e.result _ _
-    c.requires.count c.energies-e.ensures e.grid_value e.transient_value
+    planned (columns s.x.now) s.tables.high.now s.tables.low.now f.num_time_slots c.args.t_e_last_prev c.args.variable_borders c.energies-e.result _ _
+    f.counted c.energies-e.ensures e.grid_value e.transient_value
 
 pub resolved-requires-clause-whole : goal.resolved-requires-clause-whole
 resolved-requires-clause-whole c = (plan (goal.at.resolved-requires-clause-whole c).After-choose-plan).whole

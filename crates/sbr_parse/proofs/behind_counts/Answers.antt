@@ -6,12 +6,12 @@ use native.Mathlib.Omega.{arith}
 use lib.Pow.{pow_pos, pow_mono}
 use Rattle.bits.specs.Bits.{bits_of}
 use Rattle.bits.proofs.Numbers.{bits_of-mod}
-use Rattle.sbr_grid.proofs.Widths.{width_ptr}
+use Rattle.sbr_grid.proofs.Widths.{width_ptr, pointer_narrow}
 use Rattle.sbr_grid.specs.Grid.{ptr_bits}
 use Rattle.sbr_parse.specs.Parse.{twos_of}
 use Rattle.sbr_parse.proofs.Taken.{took, stopped}
 use Rattle.sbr_parse.proofs.ParseLists.{twos-mod}
-use Rattle.sbr_parse.proofs.ParseLaws.{pointer_narrow, behind_short, behind_given}
+use Rattle.sbr_parse.proofs.ParseLaws.{behind_short, behind_given}
 use Rattle.sbr_parse.proofs.behind_counts.Goals as goal
 
 pub returns-in_err-leading : goal.returns-in_err-leading

@@ -10,13 +10,14 @@ use Rattle.bits.specs.Room.{end_of, window_of}
 use Rattle.sbr_grid.specs.Grid.{view_of}
 use Rattle.sbr_grid.specs.Times.{is_number, time_record}
 use Rattle.sbr_grid.proofs.Number.{number_bits}
+use Rattle.sbr_grid.proofs.Outcomes.{passed_on, map_refused}
 use Rattle.sbr_time_grid.specs.TimeGrid.{time_grid}
 use Rattle.sbr_parse.specs.Parse.{parsed, window_bits}
 use Rattle.sbr_parse.specs.declared.Parsed.{Parsed}
 use Rattle.sbr_parse.specs.Syntax.{sbr_grid}
 use Rattle.sbr_reader.specs.Read.{left_by}
 use Rattle.sbr_reader.proofs.ReadLaws.{read-slots, read-bits, meets_not, meets_so, frame_of}
-use Rattle.sbr_reader.proofs.Reached.{Got, got, Timed, timed, viewed, record_read, mapped_err, handed_on, handed_out}
+use Rattle.sbr_reader.proofs.Reached.{Got, got, Timed, timed, viewed, record_read, handed_out}
 use Rattle.sbr_reader.proofs.read_grid.Goals.{After-derive_time_grid, In_ok-time}
 use Rattle.sbr_reader.proofs.read_grid.Goals as goal
 
@@ -37,9 +38,9 @@ returns-then-not-is_slot_count c =
 pub returns-in_err-parsed : goal.returns-in_err-parsed
 returns-in_err-parsed c =
     let a = c.args in
-    let e = mapped_err parsed (sbr_grid (window_bits c.peek_bits-window.result)) _ c.in_err-parsed.ensures in
+    let e = map_refused parsed (sbr_grid (window_bits c.peek_bits-window.result)) _ c.in_err-parsed.ensures in
     rw (
-      handed_on c.from_residual.result _ c.from_residual.ensures.1,
+      passed_on c.from_residual.result _ c.from_residual.ensures.1,
       read-bits a.buf.now a.pos a.num_time_slots a.carried (sym c.is_slot_count.ensures ∙ c.if-not-is_slot_count.false) _
           (ap (λ w. sbr_grid (window_bits w)) (sym c.peek_bits-window.ensures) ∙ e),
     )
@@ -48,9 +49,9 @@ pub returns-in_err-time : goal.returns-in_err-time
 returns-in_err-time c =
     let a = c.args in
     let x = read (goal.at.returns-in_err-time c).After-derive_time_grid in
-    let e = mapped_err time_record (time_grid a.num_time_slots (view_of c.in_ok-parsed.parsed.grid)) _ c.in_err-time.ensures in
+    let e = map_refused time_record (time_grid a.num_time_slots (view_of c.in_ok-parsed.parsed.grid)) _ c.in_err-time.ensures in
     rw (
-      handed_on c.from_residual-in_err-time.result _ c.from_residual-in_err-time.ensures.1,
+      passed_on c.from_residual-in_err-time.result _ c.from_residual-in_err-time.ensures.1,
       record_read _ _ _ _ _ a.carried x,
       ap (time_grid a.num_time_slots) (sym (viewed _ _ _ _ _ x)) ∙ e,
     )

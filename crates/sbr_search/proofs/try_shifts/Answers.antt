@@ -9,7 +9,7 @@ returns-then-not-is_cheaper c =
 
 pub returns-then-not-rises_from : goal.returns-then-not-rises_from
 returns-then-not-rises_from c =
-    shifts-fall _ _ _ _ _ _ (c.as_slice-borders.ensures.0 ∙ c.borders_of-placed.ensures.value) (sym (rw c.from.ensures at c.rises_from.ensures) ∙ c.if-not-rises_from.true)
+    shifts-fall _ _ _ _ _ _ (c.as_slice.ensures.0 ∙ c.borders_of-borders.ensures.value) (sym (rw c.from.ensures at c.rises_from.ensures) ∙ c.if-not-rises_from.true)
 
 pub loop-over-preserved : goal.loop-over-preserved
 loop-over-preserved c =
@@ -17,5 +17,5 @@ loop-over-preserved c =
 
 pub returns : goal.returns
 returns c =
-    shifts-rise _ _ _ _ _ _ (c.as_slice-borders.ensures.0 ∙ c.borders_of-placed.ensures.value) _ _ (sym (rw c.from.ensures at c.rises_from.ensures) ∙ c.if-not-rises_from.false)
+    shifts-rise _ _ _ _ _ _ c.borders_of-borders.ensures.value _ _ (sym (rw (c.from.ensures, c.as_slice.ensures.0) at c.rises_from.ensures) ∙ c.if-not-rises_from.false)
     (rw (c.borders.ensures.0, c.front.ensures 0) at c.cost_of-cost.ensures.0) (ends-end 4 _ _ _ _ _ _ _ _ (omega arith) c.loop-over.invariant.1)

@@ -34,14 +34,14 @@ pub returns-then-not-rises : goal.returns-then-not-rises
 unfolding time_grid
 returns-then-not-rises c =
     let f = sym c.fits.ensures ∙ c.if-not-fits.false in
-    let r = rises-is c.args.num_time_slots c.args.grid c.t_e-t_e.result c.rises.result f c.t_e-t_e.ensures c.rises.ensures in
+    let r = rises-is c.args.num_time_slots c.args.grid c.t_e.new.t c.rises.result f c.t_e.ensures c.rises.ensures in
     rw (sym c.is_slot_count.ensures ∙ c.if-not-is_slot_count.false, f, sym r ∙ c.if-not-rises.true)
 
 pub returns-then-not-noise_fits : goal.returns-then-not-noise_fits
 unfolding time_grid
 returns-then-not-noise_fits c =
     let f = sym c.fits.ensures ∙ c.if-not-fits.false in
-    let r = rises-is c.args.num_time_slots c.args.grid c.t_e-t_e.result c.rises.result f c.t_e-t_e.ensures c.rises.ensures in
+    let r = rises-is c.args.num_time_slots c.args.grid c.t_e.new.t c.rises.result f c.t_e.ensures c.rises.ensures in
     rw (
       sym c.is_slot_count.ensures ∙ c.if-not-is_slot_count.false,
       f,
@@ -57,7 +57,7 @@ returns c =
     let f = sym c.fits.ensures ∙ c.if-not-fits.false in
     let p = simp and-eq-true_iff at f in
     let q = sym c.noise_fits.ensures ∙ c.if-not-noise_fits.false in
-    let r = rises-is n g c.t_e-t_e.result c.rises.result f c.t_e-t_e.ensures c.rises.ensures in
+    let r = rises-is n g c.t_e.new.t c.rises.result f c.t_e.ensures c.rises.ensures in
     all_pass n (view_of g) g.num_env (lengths g).env (fit g p.0).few q _
     c.t_q.result _ s (rw (f, sym r ∙ c.if-not-rises.false) q)
-    c.t_e-t_e.ensures c.t_q.ensures (to_z-of_z w32 c.l_a.result (record { sfits = c.l_a.type_inv }) ∙ c.l_a.ensures)
+    c.t_e.ensures c.t_q.ensures (to_z-of_z w32 c.l_a.result (record { sfits = c.l_a.type_inv }) ∙ c.l_a.ensures)

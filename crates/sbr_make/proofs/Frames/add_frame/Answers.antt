@@ -60,7 +60,7 @@ returns-in_err-self-inside c =
 pub invariant_of-self : goal.invariant_of-self
 invariant_of-self c =
     let d = (goal.at.invariant_of-self c).After-write_grid in
-    subst InRoom (sym (made c)) (more_room (so_far d) d.self.invariant (grid_at d) c.requires.fits (omega arith) c.args.first c.args.last c.requires.low)
+    subst InRoom (sym (made c)) (more_room (so_far d) d.self.invariant (grid_at d) c.requires.fits (omega arith) c.args.first c.args.last c.requires.low c.requires.near)
 
 pub returns : goal.returns
 returns c =

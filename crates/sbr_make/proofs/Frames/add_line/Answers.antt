@@ -23,7 +23,7 @@ returns-in-Frame c =
     let r = c.read_line-read in
     let mark = to_z-of_z w32 s.mark (near_fits s.mark (line_bounded c.args.line.now).marked) in
     (rw (r.ensures.mark, mark) at c.name_frame.ensures)
-    ∙ named_as c.args.self _ _ _ _ _ _ (c.as_slice.ensures.value ∙ r.ensures.borders) (c.as_slice-in-Frame.ensures.value ∙ r.ensures.flags) refl
+    ∙ named_as c.args.self _ _ _ _ _ _ (c.as_slice.ensures ∙ r.ensures.borders) (c.as_slice-in-Frame.ensures ∙ r.ensures.flags) refl
     ∙ by_kind c.args.self s Frame c.args.end c.if-end-gt-MAX_TEXT.false (sym c.in-Frame.is ∙ r.ensures.kind)
 
 pub returns-in-Unreadable : goal.returns-in-Unreadable

@@ -46,7 +46,12 @@ bounds-borders-borders c = let f = got (goal.at.bounds-borders-borders c).In_ok-
 pub add_frame-requires : goal.add_frame-requires
 add_frame-requires c =
     let d = (goal.at.add_frame-requires c).In_ok-grid in
-    record { fits = ap writable (viewed d) ∙ (got d).fits; low = rw (first_is c) (border_at c.args.borders.now 0 (got d).borders).low }
+    let bs = c.args.borders.now in
+    record {
+      fits = ap writable (viewed d) ∙ (got d).fits;
+      low = rw (first_is c) (border_at bs 0 (got d).borders).low;
+      near = rw (last_is c) (border_at bs (length bs - 1) (got d).borders).low;
+    }
 
 pub returns : goal.returns
 returns c =

@@ -6,4 +6,4 @@ use Rattle.sbr_writer.proofs.fits.writable.Goals as goal
 pub class_fits-requires : goal.class_fits-requires
 class_fits-requires c =
     let t = told c.args.g (sym c.fields_fit.ensures ∙ c.if-fields_fit.true) in
-    (t.numbers.most, t.numbers.rel0, t.numbers.rel1)
+    (t.numbers.rel0, t.numbers.rel1)

@@ -12,4 +12,4 @@ returns c =
     let l = c.leading.ensures in
     let t = c.trailing.ensures in
     all_borders f.num_slots (view_of g) g.num_env 6 _ (lengths g).env (omega arith)
-    (λ j h. t.before j h ∙ l.borders j h) t.borders (λ j h. t.behind j h ∙ l.behind j (omega arith) ∙ zeros_at 6 j) (omega arith)
+    (λ j h. t.before j h ∙ l.borders j h) t.borders (λ j h. t.behind j h ∙ l.behind j (omega arith) ∙ (rw c.requires (zeros_at 6 j))) (omega arith)
