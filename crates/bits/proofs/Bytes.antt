@@ -1,12 +1,12 @@
 -- Bits and fields of one byte.
-use mathlib.Core.Path.{◌≡◌, sym}
+use mathlib.Core.Path.{◌≡◌, refl, sym}
 use mathlib.Core.Bool.{Bool}
 use Prim.Native.Nat.{ℕ, suc, ◌+◌, ◌-◌, ◌*◌, ◌/◌, ◌%◌, ◌^◌, ◌<◌, ◌≤◌}
-use native.Mathlib.Nat.{mod-lt, mul-le-mul_left, pow-suc, add_comm}
+use native.Mathlib.Nat.{mod-lt, pow-suc, add_comm}
 use native.Mathlib.Numerals.{one-add, add-one}
 use native.Mathlib.Omega.{arith}
 use lib.Arith.{digits_lt}
-use lib.Pow.{pow_pos, pow-add, high, low, shr-shr, shr_lt, shl_lt, mod-pow-add}
+use lib.Pow.{pow_pos, pow-add, high, low, shr-shr, shr_lt, shl_lt, mod-pow-add, shl_exact}
 use Rattle.bits.specs.Bits.{bit_n, bit_at, with_bit}
 use Rattle.bits.proofs.Numbers.{last_bit, bit_lt, bit_num, bit_high}
 
@@ -62,17 +62,11 @@ field_low x k n v =
     rw (mod-pow-add (v * 2 ^ k + 0) n k, high v k (pow_pos k), low v k (pow_pos k), add_comm k n, pow-add 2 n k)
     (omega arith)
 
--- the sums and products on the way to it, each within a byte
+-- a byte with another field is a byte, and the shifts that make it drop no bit
 pub record Field (x k n v : ℕ) : Type 0 where
-  pub above : x / 2 ^ (k + n) * 2 ^ n < 256
-  pub joined : x / 2 ^ (k + n) * 2 ^ n + v % 2 ^ n < 256
-  pub shifted : with_field x k n v < 256
+  pub byte : with_field x k n v < 256
+  pub shifted : (x / 2 ^ (k + n) * 2 ^ n % 2 ^ 32 + v % (1 * 2 ^ n % 2 ^ 32)) * 2 ^ k % 2 ^ 32 ≡ with_field x k n v
 
--- a product and its first factor are below what the product with a summand is below
-below_first : (t p s m : ℕ) → 0 < p → t * p + s < m → (t < m) × (t * p < m)
-below_first t p s m h k = omega (arith, mul-le-mul_left t h)
-
--- a byte with another field is a byte
 pub field_fits : (x k n v : ℕ) → x < 256 → k + n ≤ 8 → Field x k n v
 field_fits x k n v hx h =
     let m = 8 - (k + n) in
@@ -80,6 +74,8 @@ field_fits x k n v hx h =
     let f : m + n + k ≡ 8 = omega arith in
     let q : x / 2 ^ (k + n) < 2 ^ m = shr_lt m (k + n) (rw e hx) in
     let t : x / 2 ^ (k + n) * 2 ^ n + v % 2 ^ n < 2 ^ (m + n) = rw (pow-add 2 m n) (digits_lt q (mod-lt v (pow_pos n))) in
-    let w : with_field x k n v < 256 = rw f at (shl_lt (m + n) k t) in
-    let j = below_first (x / 2 ^ (k + n) * 2 ^ n + v % 2 ^ n) (2 ^ k) 0 256 (pow_pos k) (omega (arith, w)) in
-    record { above = (below_first (x / 2 ^ (k + n)) (2 ^ n) (v % 2 ^ n) 256 (pow_pos n) j.0).1; joined = j.0; shifted = w }
+    let o : 1 * 2 ^ n % 2 ^ 32 ≡ 2 ^ n = omega (arith, shl_exact {a = 1} 1 n 32 (omega arith) (omega arith)) in
+    record {
+      byte = rw f at (shl_lt (m + n) k t);
+      shifted = rw (o, shl_exact m n 32 q (omega arith), shl_exact (m + n) k 32 t (omega arith)) refl;
+    }

@@ -3,14 +3,6 @@ ghost use Rattle.std.specs.Prelude.{◌≡◌, ◌+◌, ◌-◌, ◌*◌, ◌/�
 ghost use Rattle.bits.specs.Bits.{put_bits, bits_at, bits_of, num_of};
 ghost use Rattle.bits.specs.Room.{end_of};
 
-// 2 to the power k. A product by it is proved to keep every bit, where a shift would drop those above.
-fn pow2(k: u32) -> u32
-    requires { k < 32 }
-    ensures { result ≡ 2 ^ k }
-{
-    1 << k
-}
-
 // How many of k bits from a position on stand in its byte.
 fn in_byte(pos: usize, k: u32) -> u32
     ensures { result ≡ min (8 - pos % 8) k }
@@ -27,13 +19,11 @@ fn below(pos: usize, n: u32) -> u32
 }
 
 // A byte whose n bits above the k lowest are made the n lowest of v, and the k lowest cleared.
-#[tactic(auto, using(crate::proofs::Bytes::field_fits))]
 fn with_field(x: u8, k: u32, n: u32, v: u32) -> u8
     requires { k + n ≤ 8 }
     ensures { result ≡ (x / 2 ^ (k + n) * 2 ^ n + v % 2 ^ n) * 2 ^ k }
 {
-    let wide = pow2(n);
-    (((x as u32 >> (k + n)) * wide + v % wide) * pow2(k)) as u8
+    ((((x as u32 >> (k + n)) << n) + v % (1 << n)) << k) as u8
 }
 
 // The `width` low bits of a value from a position on, byte by byte; the rest of the last byte is cleared.
@@ -60,7 +50,7 @@ fn field_of(x: u8, k: u32, n: u32) -> u32
     requires { k + n ≤ 8 }
     ensures { result ≡ x / 2 ^ k % 2 ^ n }
 {
-    (x as u32 >> k) % pow2(n)
+    (x as u32 >> k) % (1 << n)
 }
 
 // The number of the `width` bits from a position on, byte by byte: turns as in `put`.
@@ -76,7 +66,7 @@ pub fn get(buf: &[u8], pos: usize, width: u32) -> u32
         let n = in_byte(at, k);
         k -= n;
         let low = below(at, n);
-        v = v * pow2(n) + field_of(buf[at / 8], low, n);
+        v = (v << n) + field_of(buf[at / 8], low, n);
         at += n as usize;
     }
     v

@@ -32,7 +32,7 @@ impl<'a> BandTables<'a> {
     }
 }
 
-// Each entry is above the one before it.
+// Each entry is above the one before it. sbr_time_grid has the same of 32 bits: one function over both types would name their order by a bound of its own.
 fn is_climbing(table: &[u8]) -> bool
     ensures { result ≡ climbs table.now }
 {

@@ -13,7 +13,7 @@ use Rattle.std.specs.Prelude.{zip, sum_by, Option, Some, None}
 use Rattle.std.specs.List.{list_all}
 use Rattle.std.specs.Prelude.{leb}
 use Rattle.std.proofs.lemmas.List.Folds.{list_all-append}
-use Rattle.std.proofs.lemmas.List.{at_drop_more, get_or_default}
+use Rattle.std.proofs.lemmas.List.{at_drop_more, drop_more, length-drop, get_or_default}
 use Rattle.std.proofs.lemmas.List.Sums.{sum_by-cons}
 use Rattle.sbr_grid.specs.Grid.{first}
 use Rattle.sbr_grid.proofs.First.{first-length, first-get_or, first-drop, first_taken, first-set, first_push}
@@ -32,6 +32,13 @@ first_count n bs l e = ap length e ∙ first-length (onset_at 0) n bs
 pub border_is : (d : WantedBorder) (n i : ℕ) (bs l : List WantedBorder) → l ≡ first (onset_at 0) n bs → i < length l → get_or l i d ≡ get_or bs i (onset_at 0)
 border_is d n i bs l e h =
     get_or_default l i d (onset_at 0) h ∙ ap (λ m. get_or m i (onset_at 0)) e ∙ first-get_or (onset_at 0) n i bs (omega (arith, first_count n bs l e))
+
+-- where a list is taken up to its place i, that place is the next one, and the rest stands behind it
+pub taken_up : {A : Type 0} (d : A) (xs : List A) (i : ℕ) (x : A) (ys : List A) → drop i xs ≡ x ∷ ys → (i < length xs) × (get_or xs i d ≡ x) × (drop (i + 1) xs ≡ ys)
+taken_up d xs i x ys e =
+    let h : i < length xs = omega (arith, rw (length-drop i xs) at (ap length e)) in
+    let p : get_or xs i d ∷ drop (i + 1) xs ≡ x ∷ ys = sym (drop_more xs i d h) ∙ e in
+    (h, ap (λ l. get_or l 0 d) p, ap (drop 1) p)
 
 -- one place more, where the places so far and those of the other borders are r
 pub places_more : (d : WantedBorder) (ws : List WantedBorder) (is out more r : List ℕ) (i v : ℕ) → i < length ws → i < length is → more ≡ out ++ (v ∷ [])

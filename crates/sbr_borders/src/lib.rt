@@ -51,8 +51,8 @@ impl Wanted {
         ensures near { list_all (λ b. leb b 33) result ≡ true }
     {
         let mut out = Slots::new();
-        for (i, b) in self.borders().iter().enumerate() {
-            out.push(placed(*b, shifts[i]));
+        for (b, shift) in self.borders().iter().zip(shifts) {
+            out.push(placed(*b, *shift));
         }
         out
     }
@@ -123,6 +123,7 @@ pub fn next_shifts(
     ensures past { IfSome result (λ next. drop (length wanted.now) next ≡ drop (length wanted.now) shifts.now) }
 {
     let mut next = *shifts;
+    // By number: what `iter_mut` in a `zip` has written so far can't be named in an invariant.
     for (i, b) in wanted.iter().enumerate() {
         if next[i] < shift_count(*b) - 1 {
             next[i] += 1;

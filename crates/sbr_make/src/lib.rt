@@ -39,7 +39,7 @@ pub struct LineRefused {
     pub why: Refusal,
 }
 
-// The frames that the lines so far have made.
+// The frames that the lines so far have made. Their bytes are an array and a position in it: the stream has a fixed size, and `put_bits` puts at a position.
 #[derive(Drop)]
 struct Frames {
     num_time_slots: usize,

@@ -65,7 +65,7 @@ impl<'a> Envelope<'a> {
     {
         let slots = self.to - self.from;
         let mut sum = 0.0;
-        // Two slots at a turn, by number: `step_by(2)` leaves the odd slot at the end out just the same.
+        // Two slots at a turn, and the odd one at the end by itself: `step_by(2)` would yield the odd one too, as a turn with no second slot.
         for i in 0..slots / 2 {
             let c = Start::of_slot(self.from + 2 * i, k);
             let e = Start::of_slot(self.from + 2 * i + 1, k);

@@ -2,16 +2,17 @@
 -- energy is h times its octave, and what its part attains of the h edges of an octave.
 use Prim.Native.Nat.{ℕ, ◌+◌, ◌-◌, ◌*◌, ◌^◌, ◌<◌, ◌≤◌}
 use mathlib.Core.Path.{◌≡◌, sym, ap, ◌∙◌}
-use mathlib.Core.Bool.{true, false}
+use mathlib.Core.Bool.{Bool, true, false}
 use native.Mathlib.Decide.{dec_le}
 use native.Mathlib.Nat.{le_trans, lt_of_le_of_lt, lt_of_lt_of_le, mul_assoc, mul_comm, mul_left_comm, mul_right_comm, mul-add, pow-le-pow_left, one-le-pow, mul-le-mul_right, mul-le-mul_left, le_of_mul-le-mul_right, mul-pos}
 use native.Mathlib.Omega.{arith}
 use lib.Dec.{leb, lit≤, lit<}
-use Rattle.std.specs.Prelude.{count_by, [], ◌∷◌}
+use Rattle.std.specs.Prelude.{cond, sum_by, length, List, [], ◌∷◌}
 use Rattle.sbr_quantise.specs.Octaves.{parts}
 use lib.Pow.{pow-add, pow_pos, pow_mono}
 use borrow.Author.Tests.{le-leb, lt-leb, leb-true}
 use Rattle.std.proofs.lemmas.Nat.{mul-pow}
+use Rattle.std.proofs.lemmas.List.Sums.{sum_by-cons}
 use Rattle.sbr_floats.proofs.Powers.{pow-pow}
 use Rattle.sbr_quantise.specs.Quantise.{attains, last_up_to}
 use Rattle.sbr_quantise.specs.Largest.{Largest}
@@ -94,14 +95,24 @@ under_edge p u j edge t h s = lt-leb _ _ (lt_of_le_of_lt (mul-le-mul_left 2 (pow
 
 -- ---- the code's edges: as many of them as a part has reached are attained
 
-pub coarse_is : (t : ℕ) → count_by (λ e. leb e t) (1865452045155277 ∷ []) ≡ last_up_to (attains 2 (parts + t) parts) 1
+-- a test counts 1 at most
+test_once : (b : Bool) → cond b 1 0 ≤ 1
+test_once true = lit≤ tt
+test_once false = lit≤ tt
+
+-- a part attains no more edges than there are
+pub attained_few : (t : ℕ) (edges : List ℕ) → sum_by (λ e. cond (leb e t) 1 0) edges ≤ length edges
+attained_few t [] = lit≤ tt
+attained_few t (e ∷ es) = rw (sum_by-cons (λ e. cond (leb e t) 1 0) e es) (omega (arith, test_once (leb e t), attained_few t es))
+
+pub coarse_is : (t : ℕ) → sum_by (λ e. cond (leb e t) 1 0) (1865452045155277 ∷ []) ≡ last_up_to (attains 2 (parts + t) parts) 1
 unfolding last_up_to
 coarse_is t = elim (dec_le 1865452045155277 t) [
   | yes h ↦ rw (le-leb 1865452045155277 t h, at_edge 2 parts 1 1865452045155277 t h (lit≤ tt))
   | no h ↦ rw (lt-leb 1865452045155277 t (omega arith), under_edge 2 parts 1 1865452045155277 t (omega arith) (lit< tt))
 ]
 
-pub fine_is : (t : ℕ) → count_by (λ e. leb e t) (852113092622102 ∷ 3070521937417134 ∷ []) ≡ last_up_to (attains 4 (parts + t) parts) 2
+pub fine_is : (t : ℕ) → sum_by (λ e. cond (leb e t) 1 0) (852113092622102 ∷ 3070521937417134 ∷ []) ≡ last_up_to (attains 4 (parts + t) parts) 2
 unfolding last_up_to
 fine_is t = elim (dec_le 3070521937417134 t) [
   | yes h ↦

@@ -16,7 +16,7 @@ pub record Ready (high low : List ℕ) (x : List Float) (t : ℕ) : Type 0 where
   pub inside : t ≤ 24
   pub enough : (2 * t + 2) * 128 ≤ length x
 
--- borders of one to five envelopes, none below the one before it, the last within the slots
+-- borders, one to six, of at most five envelopes, none below the one before it, the last within the slots
 pub record Bordered (t : List ℕ) (slots : ℕ) : Type 0 where
   pub some : 1 ≤ length t
   pub few : length t ≤ 6

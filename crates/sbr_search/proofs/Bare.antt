@@ -1,14 +1,15 @@
 -- The two lists of wanted borders that a frame's onsets give.
-use mathlib.Core.Path.{◌≡◌, refl}
+use mathlib.Core.Path.{◌≡◌, refl, sym, ap, ◌∙◌}
 use mathlib.Core.Bool.{Bool, false, cond}
 use mathlib.Core.List.{List, [], ◌∷◌, map}
 use Prim.Native.Nat.{ℕ, zero, suc, ◌+◌, ◌≤◌, ◌<◌}
+use native.Mathlib.Numerals.{add-one}
 use native.Mathlib.Omega.{arith}
 use borrow.Author.Tests.{le-ltb, ltb-false}
 use lib.ListN.{length, get_or, get_or-map}
 use Rattle.std.specs.Prelude.{Option, Some, None}
 use Rattle.sbr_grid.specs.Grid.{first}
-use Rattle.sbr_grid.proofs.First.{first-length, first-get_or}
+use Rattle.sbr_grid.proofs.First.{first-length, first-get_or, first_map, first_back, first_take, first_taken}
 use Rattle.sbr_borders.specs.declared.WantedBorder.{WantedBorder}
 use Rattle.sbr_borders.specs.Borders.{onset_at}
 use Rattle.sbr_borders.specs.Frames.{InFrame}
@@ -21,35 +22,31 @@ use Rattle.sbr_search.proofs.Bounds.{bounds}
 abbrev pub isolating : ℕ → WantedBorder
 isolating s = record { slot = s + 2; onset = false }
 
--- the borders of one to three onsets
-pub bare_is : (n : ℕ) (xs : List ℕ) → 1 ≤ n → n ≤ 3 → first (onset_at 0) n (map onset_at (first 0 4 (first 0 n xs))) ≡ bare (first 0 n xs)
-bare_is zero xs h k = absurd (omega arith)
-bare_is (suc zero) [] h k = refl
-bare_is (suc zero) (x ∷ xs) h k = refl
-bare_is (suc (suc zero)) [] h k = refl
-bare_is (suc (suc zero)) (x ∷ []) h k = refl
-bare_is (suc (suc zero)) (x ∷ y ∷ xs) h k = refl
-bare_is (suc (suc (suc zero))) [] h k = refl
-bare_is (suc (suc (suc zero))) (x ∷ []) h k = refl
-bare_is (suc (suc (suc zero))) (x ∷ y ∷ []) h k = refl
-bare_is (suc (suc (suc zero))) (x ∷ y ∷ z ∷ xs) h k = refl
-bare_is (suc (suc (suc (suc n)))) xs h k = absurd (omega arith)
+-- the borders of at most three onsets
+pub bare_is : (n : ℕ) (xs : List ℕ) → n ≤ 3 → first (onset_at 0) n (map onset_at (first 0 4 (first 0 n xs))) ≡ bare (first 0 n xs)
+bare_is n xs h =
+    sym (first_map onset_at 0 n (first 0 4 (first 0 n xs))) ∙ ap (map onset_at) (first_back 0 4 n (first 0 n xs) (first-length 0 n xs) (omega arith))
 
--- the same with the isolating border
+-- two places of a list
+two_of : (xs : List ℕ) → get_or xs 0 0 ∷ get_or xs 1 0 ∷ [] ≡ first 0 2 xs
+two_of [] = refl
+two_of (x ∷ []) = refl
+two_of (x ∷ y ∷ xs) = refl
+
+-- the borders of at most two onsets, in two places
+bare_two : (n : ℕ) (xs : List ℕ) → n ≤ 2 → first (onset_at 0) n (onset_at (get_or xs 0 0) ∷ onset_at (get_or xs 1 0) ∷ []) ≡ bare (first 0 n xs)
+bare_two n xs h =
+    ap (λ t. first (onset_at 0) n (map onset_at t)) (two_of xs)
+    ∙ sym (first_map onset_at 0 n (first 0 2 xs))
+    ∙ ap (map onset_at) (sym (first_take 0 n (first 0 2 xs) (rw (first-length 0 2 xs) h)) ∙ first_taken 0 n 2 xs h)
+
+-- the borders of one to three onsets with the isolating border
 pub isolated_is : (n : ℕ) (xs : List ℕ) → 1 ≤ n → n ≤ 3
     → first (onset_at 0) (n + 1) (onset_at (get_or xs 0 0) ∷ isolating (get_or xs 0 0) ∷ onset_at (get_or xs 1 0) ∷ onset_at (get_or xs 2 0) ∷ [])
     ≡ isolated (first 0 n xs)
 isolated_is zero xs h k = absurd (omega arith)
-isolated_is (suc zero) [] h k = refl
-isolated_is (suc zero) (x ∷ xs) h k = refl
-isolated_is (suc (suc zero)) [] h k = refl
-isolated_is (suc (suc zero)) (x ∷ []) h k = refl
-isolated_is (suc (suc zero)) (x ∷ y ∷ xs) h k = refl
-isolated_is (suc (suc (suc zero))) [] h k = refl
-isolated_is (suc (suc (suc zero))) (x ∷ []) h k = refl
-isolated_is (suc (suc (suc zero))) (x ∷ y ∷ []) h k = refl
-isolated_is (suc (suc (suc zero))) (x ∷ y ∷ z ∷ xs) h k = refl
-isolated_is (suc (suc (suc (suc n)))) xs h k = absurd (omega arith)
+isolated_is (suc n) [] h k = rw add-one (ap {B = List _} (λ t. onset_at 0 ∷ isolating 0 ∷ t) (bare_two n [] (omega arith)))
+isolated_is (suc n) (x ∷ xs) h k = rw add-one (ap {B = List _} (λ t. onset_at x ∷ isolating x ∷ t) (bare_two n xs (omega arith)))
 
 -- ---- the borders of a case are in the frame
 

@@ -1,39 +1,68 @@
-use Rattle.std.proofs.Common.{◌<◌, refl, sym, ap, ◌∙◌, length, arith, length-append}
+use Rattle.std.proofs.Common.{◌≡◌, ◌+◌, ◌<◌, inl, inr, refl, sym, ap, ◌∙◌, length, get_or, arith, length-append}
+use Rattle.std.proofs.lemmas.List.{length-drop}
 use Rattle.sbr_grid.specs.Grid.{first}
 use Rattle.sbr_grid.proofs.First.{first-length, first-get_or}
-use Rattle.sbr_borders.specs.Borders.{place, places}
-use Rattle.sbr_borders.proofs.Shifts.{no_border, border_is, near_more, places_more, places_all}
+use Rattle.sbr_borders.specs.Borders.{onset_at, place}
+use Rattle.sbr_borders.specs.Wanted.{wanted_list}
+use Rattle.sbr_borders.proofs.Shifts.{no_border, border_is, taken_up, near_more, places_more, places_all}
 use Rattle.sbr_borders.proofs.Wanted.borders_of.Goals as goal
 
-pub loop-i-init : goal.loop-i-init
-loop-i-init c =
-    let is = first 0 c.args.self.now.count c.args.shifts.now in
-    let e = c.new-out.ensures in
-    (ap length e, rw e refl, rw e (ap (λ ws. places ws is) c.borders-b-items.ensures.0))
+pub loop-b-init : goal.loop-b-init
+loop-b-init c =
+    let b : c.zip-b-items.result.b.rest.now ≡ c.args.shifts.now = c.zip-b-items.ensures.second.0 in
+    rw (c.new-out.ensures, c.into_iter-b-iterator.ensures.into_iter_gives, c.zip-b-items.ensures.first, c.iter.ensures.rest) (c.borders.ensures.0, b, omega arith, refl, refl)
 
 pub placed-requires : goal.placed-requires
 placed-requires c =
     let w = c.args.self.now in
-    let i = c.loop-i.i in
-    let h : i < w.count = omega (arith, c.borders-b-items.ensures.1) in
-    rw (border_is no_border w.count i w.border _ c.borders-b-items.ensures.0 c.loop-i-test.true) (w.in_frame.from i h, w.in_frame.by i h)
+    let i = length c.loop-b.out in
+    let t = taken_up no_border (wanted_list w) i _ _ (sym c.loop-b.invariant.0 ∙ c.in-Some.ensures.steps.0) in
+    let h : i < w.count = omega (arith, t.0, first-length (onset_at 0) w.count w.border) in
+    rw (sym t.1 ∙ border_is no_border w.count i w.border (wanted_list w) refl t.0) (w.in_frame.from i h, w.in_frame.by i h)
 
-pub loop-i-preserved : goal.loop-i-preserved
-loop-i-preserved c =
+pub push-requires : goal.push-requires
+push-requires c =
+    let t = taken_up 0 c.args.shifts.now (length c.loop-b.out) _ _ (sym c.loop-b.invariant.1 ∙ c.in-Some.ensures.steps.1) in
+    (omega arith, omega (arith, t.0, c.told-shifts))
+
+pub loop-b-preserved : goal.loop-b-preserved
+loop-b-preserved c =
     let w = c.args.self.now in
-    let s = c.loop-i in
-    let h : s.i < w.count = omega (arith, c.borders-b-items.ensures.1) in
+    let s = c.loop-b in
+    let i = length s.out in
     let is = first 0 w.count c.args.shifts.now in
-    let e = c.placed.ensures.0 ∙ ap (place _) (sym (first-get_or 0 w.count s.i c.args.shifts.now h)) in (
-      rw (c.push.ensures, length-append) (omega arith),
-      near_more _ _ _ c.push.ensures s.invariant.1 c.placed.ensures.1,
-      places_more _ _ is s.out _ _ s.i _ c.loop-i-test.true (omega (arith, first-length 0 w.count c.args.shifts.now)) c.push.ensures e s.invariant.2,
+    let t = taken_up no_border (wanted_list w) i _ _ (sym s.invariant.0 ∙ c.in-Some.ensures.steps.0) in
+    let u = taken_up 0 c.args.shifts.now i _ _ (sym s.invariant.1 ∙ c.in-Some.ensures.steps.1) in
+    let h : i < w.count = omega (arith, t.0, first-length (onset_at 0) w.count w.border) in
+    let e : c.placed.result ≡ place (get_or (wanted_list w) i no_border) (get_or is i 0) =
+    rw (t.1, first-get_or 0 w.count i c.args.shifts.now h, u.1) c.placed.ensures.0 in
+    let n : length c.push.new.self ≡ i + 1 = rw (c.push.ensures, length-append) refl in
+    rw n (
+      sym t.2,
+      sym u.2,
+      omega arith,
+      near_more _ _ _ c.push.ensures s.invariant.3 c.placed.ensures.1,
+      places_more no_border (wanted_list w) is s.out _ _ i _ t.0 (omega (arith, first-length 0 w.count c.args.shifts.now)) c.push.ensures e s.invariant.4,
     )
+
+-- every border has its place
+all : (c : goal.In-None) → length c.loop-b.out ≡ c.args.self.now.count
+all c =
+    let w = c.args.self.now in
+    let s = c.loop-b in
+    let i = length s.out in
+    let a = rw (length-drop i (wanted_list w), first-length _ w.count w.border) at (ap length s.invariant.0) in
+    let b = rw (length-drop i c.args.shifts.now) at (ap length s.invariant.1) in
+    elim c.in-None.ensures.steps [
+      | inl u ↦ omega (arith, a, u.1.0, s.invariant.2)
+      | inr u ↦ omega (arith, b, u.1.0, s.invariant.2, w.in_frame.few, c.told-shifts)
+    ]
 
 pub returns-clause-value : goal.returns-clause-value
 returns-clause-value c =
-    let s = c.loop-i in
-    places_all _ _ s.out _ s.i (omega arith) s.invariant.2
+    let w = c.args.self.now in
+    let s = c.loop-b in
+    places_all _ _ s.out _ (length s.out) (omega (arith, all c, first-length (onset_at 0) w.count w.border)) s.invariant.4
 
 pub returns-clause-count : goal.returns-clause-count
-returns-clause-count c = omega (arith, c.borders-b-items.ensures.1)
+returns-clause-count c = all c
