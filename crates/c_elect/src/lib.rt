@@ -44,7 +44,7 @@ pub fn elect_grid(
         variable_borders,
         num_time_slots as usize,
     )?;
-    *transient = elected.transient as u32;
+    *transient = u32::from(elected.transient);
     c_values::give::give_record(elected.grid, numbers, freq_res, rel_bord_0, rel_bord_1);
     Ok(())
 }

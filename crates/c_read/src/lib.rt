@@ -52,8 +52,8 @@ pub fn read_grid(
     let read = sbr_reader::read_grid(bytes, *position as usize, num_time_slots as usize, carried)?;
     *position = read.position as u64;
     *border = read.carried.border;
-    *attack = read.carried.attack as u32;
-    *begins_on_attack = read.begins_on_attack as u32;
+    *attack = u32::from(read.carried.attack);
+    *begins_on_attack = u32::from(read.begins_on_attack);
     c_values::give::give_record(read.grid, numbers, freq_res, rel_bord_0, rel_bord_1);
     c_values::give::give_times(read.time, t_e, t_q, l_a);
     Ok(())

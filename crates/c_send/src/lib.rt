@@ -68,7 +68,7 @@ pub fn send_frame(
     )?;
     *position = sending.place.position as u64;
     *border = sending.place.carried.border;
-    *transient = sending.transient as u32;
+    *transient = u32::from(sending.transient);
     c_values::give::give_record(sending.grid, numbers, freq_res, rel_bord_0, rel_bord_1);
     c_values::give::give_times(sending.time, t_e, t_q, l_a);
     Ok(())

@@ -28,12 +28,12 @@ fn numbers(grid: SbrGrid) -> [u32; NUMBERS]
         grid.frame_class.into(),
         grid.num_env as u32,
         grid.num_noise as u32,
-        grid.var_bord_0 as u32,
-        grid.var_bord_1 as u32,
+        grid.var_bord_0.into(),
+        grid.var_bord_1.into(),
         grid.num_rel_0 as u32,
         grid.num_rel_1 as u32,
-        grid.pointer as u32,
-        grid.amp_res_override as u32,
+        grid.pointer.into(),
+        grid.amp_res_override.into(),
     ]
 }
 
@@ -55,7 +55,7 @@ pub fn give_record(
     let leading = grid.rel_bord_0;
     let trailing = grid.rel_bord_1;
     *to_numbers = numbers(grid);
-    *freq_res = flags.map(|flag| flag as u8);
+    *freq_res = flags.map(u8::from);
     *rel_bord_0 = leading;
     *rel_bord_1 = trailing;
 }

@@ -10,11 +10,7 @@ fn print_reading(rt: &(impl Input + Print), bytes: &[u8], from: Place) -> Place 
     let lent = case_io::next_count(rt, bytes.len());
     let place = match sbr_run::receive_frame(&bytes[..lent], num_time_slots, from) {
         Ok(read) => {
-            let frame = Frame {
-                grid: read.grid,
-                time: read.time,
-                begins_on_attack: read.begins_on_attack,
-            };
+            let frame = Frame::from(read);
             let _ = print!(rt; "read ");
             frame.print(rt);
             frame.print_begins(rt);

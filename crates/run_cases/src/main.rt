@@ -108,11 +108,7 @@ impl Run<'_> {
         match sbr_run::receive_frame(bytes, num_time_slots, self.receiver) {
             Ok(read) => {
                 self.receiver = Place::from(read);
-                let frame = Frame {
-                    grid: read.grid,
-                    time: read.time,
-                    begins_on_attack: read.begins_on_attack,
-                };
+                let frame = Frame::from(read);
                 let silence = [0.0; case_io::MAX_SAMPLES];
                 let _ = print!(rt; "read ");
                 self.print_frame(rt, &frame, &silence, num_time_slots);

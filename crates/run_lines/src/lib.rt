@@ -7,7 +7,7 @@ ghost use Rattle.sbr_grid.specs.Grid.{class_code};
 ghost use Rattle.run_lines.specs.Number.{with_digit, with_digits, mark_number, frame_number};
 
 use sbr_grid::{FrameClass, SbrGrid, TimeGrid};
-use sbr_reader::Carried;
+use sbr_reader::{Carried, FrameRead};
 use sbr_run::Place;
 
 // A frame that is sent or read: its record, its time grid, and whether it begins on an attack.
@@ -16,6 +16,19 @@ pub struct Frame {
     pub grid: SbrGrid,
     pub time: TimeGrid,
     pub begins_on_attack: bool,
+}
+
+// A frame that was read.
+impl From<FrameRead> for Frame {
+    ghost from_gives = { λ read frame. frame ≡ record { grid = read.grid; time = read.time; begins_on_attack = read.begins_on_attack } };
+
+    fn from(read: FrameRead) -> Frame {
+        Frame {
+            grid: read.grid,
+            time: read.time,
+            begins_on_attack: read.begins_on_attack,
+        }
+    }
 }
 
 impl Frame {

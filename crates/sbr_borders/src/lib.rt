@@ -19,7 +19,8 @@ pub struct WantedBorder {
 }
 
 // The wanted borders, the first `count` places.
-// An array and its count, and no `Slots`, whose view forgets the places behind the count: this is `Copy`. `borders` hands out the slice.
+// An array and its count, and no `Slots`, whose view forgets the places behind the count: this is `Copy`, and the four places are set at once, for any
+// count. `borders` hands out the slice.
 #[derive(Clone, Copy)]
 pub struct Wanted {
     pub count: usize,

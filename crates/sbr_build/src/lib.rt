@@ -18,7 +18,8 @@ pub struct Frame {
 }
 
 // The onset slots of a frame, the first `count` places.
-// An array and its count, and no `Slots`, whose view forgets the places behind the count: this is `Copy`. `slots` hands out the slice.
+// An array and its count, and no `Slots`, whose view forgets the places behind the count: this is `Copy`, and contracts give the whole value, zeros behind
+// the count too. `slots` hands out the slice.
 #[derive(Clone, Copy)]
 pub struct Onsets {
     pub count: usize,

@@ -1,6 +1,7 @@
 // The calls of the C firmware: plain numbers and ranges of bytes, in and out. Each answers 0, or the number of a refusal, and a
 // refused call leaves everything that was lent as it was. What they do stands in c_bits, c_read, c_elect,
-// c_energies, c_quantise, c_named and c_send. C hands every number of a record in by itself: `Handed` holds them together.
+// c_energies, c_quantise, c_named and c_send: an export has to stand in the crate of the static library, and only hands on. C hands every number of a record
+// in by itself: `Handed` holds them together.
 #![tactic(auto, using(c_values::proofs::Answers::gives))]
 
 ghost use Rattle.std.specs.Prelude.{length};

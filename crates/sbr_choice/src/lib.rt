@@ -49,10 +49,7 @@ fn double_first(attacks: Attacks) -> Option<SbrGrid>
 fn single_grid(attack: Attack) -> SbrGrid
     ensures { result ≡ record_of (or_grid (late_attack_varvar attack.s attack.frame.lead attack.frame.nts) (variable_grid attack.s attack.frame.lead attack.frame.nts)) }
 {
-    match sbr_attack::late_attack_varvar(attack) {
-        Some(grid) => grid,
-        None => sbr_attack::variable_grid(attack),
-    }
+    sbr_attack::late_attack_varvar(attack).unwrap_or_else(|| sbr_attack::variable_grid(attack))
 }
 
 // Variable borders: the search for three onsets, then the double grid, the search for two onsets, the late grid, one onset's grid.

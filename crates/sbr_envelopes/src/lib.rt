@@ -27,7 +27,8 @@ fn rows_length(resolutions: &[bool], high_bands: usize, low_bands: usize) -> usi
         .sum()
 }
 
-// The rows of some envelopes between their borders, one after another.
+// The rows of some envelopes between their borders, one after another. That the borders are `Bordered` is said here, in `fit_rows` and in
+// `FrameSamples::resolutions`: a type around the slice would have to hold the frame's slots beside it.
 fn fill_rows(frame: FrameSamples, resolutions: &[bool], borders: &[u32], out: &mut [f64])
     requires borders { Bordered borders.now frame.slots }
     requires one_more { length borders.now ≡ length resolutions.now + 1 }

@@ -21,7 +21,7 @@ impl FrameClass {
     // The largest class number.
     pub const MAX_CODE: u32 = 3;
 
-    // The class of a number up to 3; any other is VarVar's.
+    // The class of a number up to 3; any other is VarVar's. By name: with a `From<u32>` std gives a type a `TryFrom` that refuses nothing.
     pub fn of_code(code: u32) -> Self
         ensures { result ≡ class_of code }
     {
@@ -33,7 +33,7 @@ impl FrameClass {
         }
     }
 
-    // The class of the two low bits of a number.
+    // The class of the two low bits of a number; by name, as `of_code`.
     pub fn from_bits(v: u32) -> Self
         ensures { result ≡ class_of (v % 4) }
     {
@@ -78,6 +78,7 @@ impl fmt::Display for FrameClass {
 
 // The fields of sbr_grid() for one channel. A list is an array with a count beside it, since the memory is fixed and
 // C is given every place; only the places below the count are in use. `resolutions`, `leading` and `trailing` hand out the slices.
+// No invariant bounds the counts: C may hand in any, and whether they fit is what calls test.
 #[derive(Clone, Copy)]
 pub struct SbrGrid {
     pub frame_class: FrameClass,
@@ -249,6 +250,7 @@ impl From<Refusal> for u32 {
 }
 
 // The borders of a frame: arrays with counts, as in a record. Places past a count are zero. `borders` and `noise_borders` hand out the slices.
+// No invariant bounds the counts: it would be asked of those too who only print a time grid or give it to C.
 #[derive(Clone, Copy)]
 pub struct TimeGrid {
     // The envelopes; there is one border more.

@@ -16,7 +16,7 @@ pub const PAGE_SIZE: usize = 16384;
 // The most bytes of input that 255 frames need: three, and 26 bits a frame.
 pub const MOST_INPUT: usize = 832;
 
-// A text at a place of the page; the answer is the place behind it.
+// A text at a place of the page; the answer is the place behind it. The page is lent whole, so the place goes from text to text by itself.
 #[tactic(auto, using(crate::proofs::Pages::put_text))]
 fn put(page: &mut [u8], at: usize, text: &[u8]) -> usize
     requires { at + length text.now ≤ length page.old }

@@ -62,7 +62,7 @@ impl NamedFrame<'_> {
     fn stored_lengths(&self, side: Side, count: usize) -> [u8; SbrGrid::MAX_REL_BORD]
         ensures { result ≡ first 0 4 (side_lengths side self.now.borders.now (length self.now.freq_res.now) count) }
     {
-        [0, 1, 2, 3].map(|i| self.length_at(side, count, i))
+        std::array::from_fn(|i| self.length_at(side, count, i))
     }
 
     // The border byte of the first border, in the classes that send one.
@@ -140,6 +140,7 @@ impl NamedFrame<'_> {
     fn has_times_of(&self, grid: SbrGrid) -> bool
         ensures { let f = self.now in result ≡ has_times f.borders.now f.l_a (time_grid f.num_slots (view_of grid)) }
     {
+        // Tried: `is_ok_and`; what `has_times` asks of a time grid isn't known in a closure.
         match sbr_time_grid::derive_time_grid(grid, self.num_slots) {
             Ok(time) => self.has_times(&time),
             Err(_) => false,

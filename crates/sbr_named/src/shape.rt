@@ -11,7 +11,7 @@ pub enum Side {
     Trailing,
 }
 
-// A class and, in VarVar, a count of leading lengths.
+// A class and, in VarVar, a count of leading lengths. It is 0 in the others, since the definitions read class and count of every shape.
 #[derive(Clone, Copy)]
 pub struct Shape {
     pub class: FrameClass,

@@ -71,7 +71,8 @@ fn detect_onsets(e: &[f64; 24], peak: f64, nts: usize) -> Onsets
     Onsets { count, slot }
 }
 
-// The onsets of a frame, the peak taken over 8 slots more.
+// The onsets of a frame, the peak taken over 8 slots more. The array has places for the longest frame; nts is the frame's own count of slots, here
+// as in `detect_onsets`, `halves_alike` and sbr_encoder's `choose`.
 pub fn onsets_of(e: &[f64; 24], nts: usize) -> Onsets
     requires { nts ≤ 16 }
     ensures { result ≡ onsets_record (onsets_for (energy_at e.now) nts) }

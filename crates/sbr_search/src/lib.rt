@@ -29,10 +29,7 @@ const ISOLATION_WORTH: u32 = 2;
 fn is_cheaper(total: u32, best: Option<Cheapest>) -> bool
     ensures { (k : ℕ) → result ≡ beats total (option_map (best_of k) best) }
 {
-    match best {
-        Some(plan) => total < plan.total,
-        None => true,
-    }
+    best.is_none_or(|plan| total < plan.total)
 }
 
 // The best so far, or the plan of these shifts that ends at `over` slots past the frame, where that is cheaper.
@@ -53,6 +50,7 @@ fn try_end(
     if t <= sbr_borders::last_border(lead, borders.as_slice()) || !is_cheaper(total, best) {
         return best;
     }
+    // Tried: `map` and `or`; of a closure it isn't known that `over` is at most 3.
     match sbr_borders::fitting(lead, t, borders) {
         Some(leading) => Some(Cheapest {
             shifts: *shifts,

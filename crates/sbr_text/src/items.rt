@@ -3,14 +3,15 @@ ghost use Rattle.std.specs.Prelude.{◌≤◌};
 
 use std::alloc::AllocError;
 
-// At most N items, in order: the first places of an array, and their count. Not sbr_build's `Slots`, whose Model can't be `Copy`.
+// At most N items, in order: the first places of an array, and their count. Not sbr_build's `Slots`, whose Model can't be `Copy`; the sealed library's
+// `Onsets` and `Wanted` say for themselves why they are no such list.
 pub struct Items<T, const N: usize> {
     count: usize,
     places: [T; N],
     ghost held: { count ≤ N },
 }
 
-// A copy has the same items.
+// A copy has the same items. Written out: a derive is refused for a generic struct with a ghost field.
 impl<T: Copy, const N: usize> Clone for Items<T, N> {
     ghost use Rattle.std.specs.Prelude.{◌≡◌, ⊤};
 

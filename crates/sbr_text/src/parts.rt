@@ -80,14 +80,14 @@ impl Number {
 // What stands in a line so far.
 #[derive(Clone, Copy)]
 pub struct Parts {
-    // Nothing was found that no line has.
+    // Nothing was found that no line has. A flag beside the others, since contracts tell the parts of a line that is refused too.
     good: bool,
     // A class was named.
     class: bool,
     part: Part,
     number: Number,
     borders: Items<i32, { TextLine::MAX_BORDERS }>,
-    // How many marks there are, at most 2, and the last one.
+    // How many marks there are, at most 2, and the last one. A count and no `Option`: that there is one too many shows at the line's end.
     marks: u8,
     mark: i32,
     flags: Items<bool, { TextLine::MAX_FLAGS }>,

@@ -165,7 +165,7 @@ impl Frame {
         }
     }
 
-    // All borders, in places that are 0; those behind the borders stay 0. An array handed out would be copied.
+    // All borders, in places that are 0; those behind the borders stay 0. An array handed out would be copied, which the optimiser can't take away.
     pub fn t_e(&self, t: &mut [u32; TimeGrid::MAX_BORDERS])
         requires { t.old ≡ replicate 6 0 }
         ensures { t.new ≡ first 0 6 (list_from (t_e_of self.now.num_slots (view_of self.now.grid)) 0 (self.now.grid.num_env + 1)) }

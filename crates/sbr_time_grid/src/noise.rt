@@ -7,7 +7,7 @@ use crate::border::Frame;
 use sbr_grid::{FrameClass, TimeGrid};
 
 impl Frame {
-    // The envelope border at which the two noise floors meet; 0 where there is none.
+    // The envelope border at which the two noise floors meet. `noise_fits` tests whether it lies inside the frame.
     #[tactic(auto, using(crate::proofs::Laws::middle_by, crate::proofs::Marks::pointer_low, crate::proofs::Marks::pointer_high))]
     fn middle_border(&self) -> usize
         ensures { result ≡ middle_border (view_of self.now.grid) }

@@ -126,7 +126,8 @@ fn push_flags(bits: Window, g: SbrGrid) -> Window
     }
 }
 
-// All bits of a writable record.
+// All bits of a writable record. A type that held that would be opened at once by each of the three that ask it: this, `push_counts` and sbr_make's
+// `add_frame`.
 pub fn grid_bits(g: SbrGrid) -> Window
     requires { writable (view_of g) ≡ true }
     ensures { result ≡ window_for (grid_bits (view_of g)) }

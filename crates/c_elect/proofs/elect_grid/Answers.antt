@@ -15,5 +15,5 @@ returns c =
     let g = c.give_record.ensures in
     let v = switched _ _ c.in_ok-variable_borders.ensures in
     let e = rw (to_z-of_z w32 _ c.ranges.previous_border, v.1) at c.in_ok-elected.ensures in
-    rw (slots, v.0, g.to_numbers_after, g.freq_res_after, g.rel_bord_0_after, g.rel_bord_1_after)
+    rw (slots, v.0, c.from.ensures, g.to_numbers_after, g.freq_res_after, g.rel_bord_0_after, g.rel_bord_1_after)
     (elect_given _ _ _ _ _ _ _ e)

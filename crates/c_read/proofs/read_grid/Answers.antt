@@ -15,5 +15,5 @@ returns c =
     let l : SFits w32 c.in_ok-read.read.carried.border = search rules in
     let g = c.give_record.ensures in
     let t = c.give_times.ensures in
-    rw (g.to_numbers_after, g.freq_res_after, g.rel_bord_0_after, g.rel_bord_1_after, t.t_e_after, t.t_q_after, t.l_a_after)
+    rw (c.from.ensures, c.from-2.ensures, g.to_numbers_after, g.freq_res_after, g.rel_bord_0_after, g.rel_bord_1_after, t.t_e_after, t.t_q_after, t.l_a_after)
     (read_given _ _ _ _ c.in_ok-read.read (rw (to_z-of_z w32 _ f) at c.in_ok-read.ensures) _ (to_z-of_z w32 _ l))

@@ -29,6 +29,6 @@ returns c =
     let slots = sym c.is_slot_count.ensures ∙ c.if-not-is_slot_count.false in
     let g = c.give_record.ensures in
     let m = c.give_times.ensures in
-    rw (slots, v.0, g.to_numbers_after, g.freq_res_after, g.rel_bord_0_after, g.rel_bord_1_after, m.t_e_after, m.t_q_after, m.l_a_after)
+    rw (slots, v.0, c.from.ensures, g.to_numbers_after, g.freq_res_after, g.rel_bord_0_after, g.rel_bord_1_after, m.t_e_after, m.t_q_after, m.l_a_after)
     (send_given t c.in_ok-sending.sending (rw (c.start.ensures, to_z-of_z w32 _ f, v.1) at c.in_ok-sending.ensures.answer) a.bytes.now _ _
     (rw (c.start.ensures, to_z-of_z w32 _ f, v.1) at c.send_frame.ensures.bytes) (to_z-of_z w32 _ l))
