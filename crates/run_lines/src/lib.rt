@@ -79,7 +79,7 @@ fn with_digits(number: u64, borders: &[u32]) -> u64
     )
 }
 
-// Resolutions in a number, a bit for each.
+// Resolutions in a number, a bit for each. sbr_writer's `joined_flags` has the same in 32 bits: one function over both types would name shifts by a bound.
 fn resolutions_number(freq_res: [bool; SbrGrid::MAX_NUM_ENV]) -> u64
     ensures { result ≡ num_of freq_res }
 {
