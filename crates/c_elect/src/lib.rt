@@ -11,8 +11,7 @@ use sbr_grid::{Refusal, SbrGrid};
 // Refused by 1, by 5 for a switch above 1, then as `sbr_encoder::elect_grid`.
 pub fn elect_grid(
     samples: &[f64],
-    high: &[u8],
-    low: &[u8],
+    tables: BandTables,
     previous_border: i32,
     variable_borders: u32,
     num_time_slots: u64,
@@ -23,7 +22,7 @@ pub fn elect_grid(
     rel_bord_1: &mut [u8; SbrGrid::MAX_REL_BORD],
 ) -> Result<(), Refusal>
     ensures { Leaves
-        (elect_call num_time_slots high.now low.now samples.now previous_border variable_borders)
+        (elect_call num_time_slots tables.entry.high.now tables.entry.low.now samples.now previous_border variable_borders)
         election_out (
           transient.old,
           (numbers.old, freq_res.old, rel_bord_0.old, rel_bord_1.old),
@@ -39,7 +38,7 @@ pub fn elect_grid(
     let variable_borders = c_values::form::switch(variable_borders)?;
     let elected = sbr_encoder::elect_grid(
         samples,
-        BandTables { high, low },
+        tables,
         previous_border,
         variable_borders,
         num_time_slots as usize,

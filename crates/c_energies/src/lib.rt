@@ -12,8 +12,7 @@ use sbr_grid::Refusal;
 // Refused by 1, by 5 for what can't be formed, then as `sbr_envelopes::estimate_envelopes`.
 pub fn estimate_envelopes(
     samples: &[f64],
-    high: &[u8],
-    low: &[u8],
+    tables: BandTables,
     num_time_slots: u64,
     handed: Handed,
     freq_res: &[u8],
@@ -23,7 +22,7 @@ pub fn estimate_envelopes(
     count: &mut u64,
 ) -> Result<(), Refusal>
     ensures { Leaves
-        (energy_call num_time_slots high.now low.now samples.now handed
+        (energy_call num_time_slots tables.entry.high.now tables.entry.low.now samples.now handed
         freq_res.now rel_bord_0.now rel_bord_1.now (length out.old))
         (energy_out out.old) (out.old, count.old)
         result (out.new, count.new) }
@@ -32,13 +31,7 @@ pub fn estimate_envelopes(
         return Err(Refusal::SlotCount);
     }
     let grid = c_values::form::form_record(handed, freq_res, rel_bord_0, rel_bord_1)?;
-    let n = sbr_envelopes::estimate_envelopes(
-        samples,
-        BandTables { high, low },
-        grid,
-        num_time_slots as usize,
-        out,
-    )?;
+    let n = sbr_envelopes::estimate_envelopes(samples, tables, grid, num_time_slots as usize, out)?;
     *count = n as u64;
     Ok(())
 }

@@ -13,8 +13,7 @@ use sbr_run::Place;
 // Refused by 1, by 5 for a switch above 1, then as `sbr_run::send_frame`.
 pub fn send_frame(
     samples: &[f64],
-    high: &[u8],
-    low: &[u8],
+    tables: BandTables,
     variable_borders: u32,
     num_time_slots: u64,
     bytes: &mut [u8],
@@ -30,7 +29,7 @@ pub fn send_frame(
     l_a: &mut i32,
 ) -> Result<(), Refusal>
     ensures { Leaves
-        (send_call num_time_slots high.now low.now samples.now variable_borders
+        (send_call num_time_slots tables.entry.high.now tables.entry.low.now samples.now variable_borders
         bytes.old position.old border.old)
         send_out (
           bytes.old,
@@ -60,7 +59,7 @@ pub fn send_frame(
     };
     let sending = sbr_run::send_frame(
         samples,
-        BandTables { high, low },
+        tables,
         variable_borders,
         num_time_slots as usize,
         bytes,

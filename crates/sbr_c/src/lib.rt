@@ -1,7 +1,7 @@
 // The calls of the C firmware: plain numbers and ranges of bytes, in and out. Each answers 0, or the number of a refusal, and a
 // refused call leaves everything that was lent as it was. What they do stands in c_bits, c_read, c_elect,
 // c_energies, c_quantise, c_named and c_send: an export has to stand in the crate of the static library, and only hands on. C hands every number of a record
-// in by itself: `Handed` holds them together.
+// in by itself, and each band table: `Handed` and `BandTables` hold them together.
 #![tactic(auto, using(c_values::proofs::Answers::gives))]
 
 ghost use Rattle.std.specs.Prelude.{length};
@@ -18,6 +18,7 @@ ghost use Rattle.c_send.specs.Turns.{send_call, send_out};
 
 use c_values::form::Handed;
 use c_values::give::{NUMBERS, code_of};
+use sbr_bands::BandTables;
 use sbr_grid::{SbrGrid, TimeGrid};
 
 // sbr_grid() of a record is written at a bit position, which is moved past it; the rest of the byte in which it ends is cleared.
@@ -187,8 +188,7 @@ pub extern "C" fn sbr_elect_grid(
 {
     code_of(c_elect::elect_grid(
         samples,
-        high,
-        low,
+        BandTables { high, low },
         previous_border,
         variable_borders,
         num_time_slots,
@@ -230,8 +230,7 @@ pub extern "C" fn sbr_estimate_envelopes(
 {
     code_of(c_energies::estimate_envelopes(
         samples,
-        high,
-        low,
+        BandTables { high, low },
         num_time_slots,
         Handed {
             frame_class,
@@ -334,8 +333,7 @@ pub extern "C" fn sbr_send_frame(
 {
     code_of(c_send::send_frame(
         samples,
-        high,
-        low,
+        BandTables { high, low },
         variable_borders,
         num_time_slots,
         bytes,

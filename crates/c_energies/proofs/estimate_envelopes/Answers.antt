@@ -13,7 +13,7 @@ pub returns-in_err-n : goal.returns-in_err-n
 returns-in_err-n c =
     let a = c.args in
     let slots = sym c.is_slot_count.ensures ∙ c.if-not-is_slot_count.false in
-    let formed = is_formed _ (λ g. energies a.num_time_slots a.high.now a.low.now a.samples.now g (length a.out.now)) c.in_ok-grid.grid (energy_same _ _ _ _ _) _ c.in_ok-grid.ensures in
+    let formed = is_formed _ (λ g. energies a.num_time_slots a.tables.high.now a.tables.low.now a.samples.now g (length a.out.now)) c.in_ok-grid.grid (energy_same _ _ _ _ _) _ c.in_ok-grid.ensures in
     let o = map_refused length _ c.in_err-n.field-0.0 c.in_err-n.ensures.answer in
     let m = c.estimate_envelopes.ensures.numbers ∙ ap (numbers_after a.out.now) o in
     rw (slots, m) (leaves-refused (energy_out a.out.now) _ _ _ (passed_on _ _ c.from_residual-in_err-n.ensures.1) (formed ∙ o))
@@ -22,7 +22,7 @@ pub returns : goal.returns
 returns c =
     let a = c.args in
     let slots = sym c.is_slot_count.ensures ∙ c.if-not-is_slot_count.false in
-    let formed = is_formed _ (λ g. energies a.num_time_slots a.high.now a.low.now a.samples.now g (length a.out.now)) c.in_ok-grid.grid (energy_same _ _ _ _ _) _ c.in_ok-grid.ensures in
+    let formed = is_formed _ (λ g. energies a.num_time_slots a.tables.high.now a.tables.low.now a.samples.now g (length a.out.now)) c.in_ok-grid.grid (energy_same _ _ _ _ _) _ c.in_ok-grid.ensures in
     let o = map_answered length _ c.in_ok-n.n c.in_ok-n.ensures.answer in
     let m = c.estimate_envelopes.ensures.numbers ∙ ap (numbers_after a.out.now) o.1.0 in
     rw slots (leaves-answered (energy_out a.out.now) _ o.0 _ (formed ∙ o.1.0) (λ i. (m i, o.1.1 i)))

@@ -16,7 +16,7 @@ give_record-requires c =
     let a = c.args in
     let f : SFits w32 a.border.now = search rules in
     let v = switched _ _ c.in_ok-variable_borders.ensures in
-    let t = turn_from a.num_time_slots a.high.now a.low.now a.samples.now (eqb a.variable_borders 1) a.bytes.now (place_in a.border.now a.position.now) in
+    let t = turn_from a.num_time_slots a.tables.high.now a.tables.low.now a.samples.now (eqb a.variable_borders 1) a.bytes.now (place_in a.border.now a.position.now) in
     send_few t c.in_ok-sending.sending (rw (c.start.ensures, to_z-of_z w32 _ f, v.1) at c.in_ok-sending.ensures.answer) _ _ _ _ _ _ refl
 
 pub returns : goal.returns
@@ -24,7 +24,7 @@ returns c =
     let a = c.args in
     let f : SFits w32 a.border.now = search rules in
     let l : SFits w32 c.in_ok-sending.sending.place.carried.border = search rules in
-    let t = turn_from a.num_time_slots a.high.now a.low.now a.samples.now (eqb a.variable_borders 1) a.bytes.now (place_in a.border.now a.position.now) in
+    let t = turn_from a.num_time_slots a.tables.high.now a.tables.low.now a.samples.now (eqb a.variable_borders 1) a.bytes.now (place_in a.border.now a.position.now) in
     let v = switched _ _ c.in_ok-variable_borders.ensures in
     let slots = sym c.is_slot_count.ensures ∙ c.if-not-is_slot_count.false in
     let g = c.give_record.ensures in
