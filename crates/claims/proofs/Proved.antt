@@ -1,7 +1,7 @@
 -- The claims hold.
 use Rattle.claims.specs.Claims.{Claims}
 use Rattle.bits.proofs.After.{every_field}
-use Rattle.sbr_grid.proofs.Widths.{pointer_width, grid_widths}
+use Rattle.sbr_grid.proofs.Widths.{pointer_width, leading_width, grid_widths}
 use Rattle.sbr_time_grid.proofs.Ends.{ends_near}
 use Rattle.sbr_writer.proofs.Puts.{every_write}
 use Rattle.sbr_parse.proofs.Inverse.{reads_back, writes_back}
@@ -48,6 +48,7 @@ claims = record {
   given_back = given_back;
   enough_text = enough_text;
   pointer_width = pointer_width;
+  leading_width = leading_width;
   grid_widths = grid_widths;
   ends_near = ends_near;
   reads_back = reads_back;

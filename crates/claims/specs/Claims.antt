@@ -1,7 +1,7 @@
 -- Every claim that belongs to no function, a field each, in the order of the three terms. Each stands in the crate that proves it; proofs/Proved.antt
 -- gives them, so that none can be lost.
 use Rattle.bits.specs.Put.{EveryField}
-use Rattle.sbr_grid.specs.Grid.{PointerWidth, GridWidths}
+use Rattle.sbr_grid.specs.Grid.{PointerWidth, LeadingWidth, GridWidths}
 use Rattle.sbr_time_grid.specs.TimeGrid.{EndsNear}
 use Rattle.sbr_writer.specs.Write.{EveryWrite}
 use Rattle.sbr_parse.specs.Inverse.{ReadsBack, WritesBack}
@@ -54,8 +54,10 @@ pub record Claims : Type 1 where
   pub given_back : GivenBack
   pub enough_text : EnoughText
   -- ---- term 2: grids, bits and energies are those of the standard and of the Rust
-  -- the width of bs_pointer is the least that tells the envelope count + 1 values apart: 1 bit for one envelope, 2 for two and three, 3 for four and five
+  -- the width of bs_pointer is the least that tells the envelope count + 1 values apart, and what the leading zeros of the count leave of any number of
+  -- digits that hold it: 1 bit for one envelope, 2 for two and three, 3 for four and five
   pub pointer_width : PointerWidth
+  pub leading_width : LeadingWidth
   pub grid_widths : GridWidths
   -- every time grid ends at most 3 slots past the frame
   pub ends_near : EndsNear

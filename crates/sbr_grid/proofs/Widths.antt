@@ -1,17 +1,15 @@
--- The pointer's width: `ptr_bits` is the logarithm of n + 1 rounded up, and the program's table has it for 1 to 5.
-use mathlib.Core.Path.{◌≡◌, refl}
+-- The pointer's width: `ptr_bits` is the logarithm of n + 1 rounded up, which is how many binary digits n has.
+use mathlib.Core.Path.{◌≡◌}
 use mathlib.Core.Bool.{cond}
-use mathlib.Core.List.{[], ◌∷◌}
-use Prim.Native.Nat.{ℕ, zero, suc, ◌+◌, ◌-◌, ◌*◌, ◌^◌, ◌≤◌, ◌<◌}
+use Prim.Native.Nat.{ℕ, zero, suc, ◌+◌, ◌*◌, ◌^◌, ◌≤◌, ◌<◌}
 use native.Mathlib.Omega.{arith}
 use native.Mathlib.Nat.{pow-suc, add-suc, suc-add}
 use native.Mathlib.Decide.{dec_le}
 use borrow.Author.Tests.{le-leb, lt-leb}
-use lib.Count.{count_leading_zeros, leading_length}
+use lib.Count.{leading_length}
 use lib.Dec.{leb}
 use lib.Pow.{pow_mono}
-use lib.ListN.{get_or}
-use Rattle.sbr_grid.specs.Grid.{width_from, ptr_bits, CeilLog, PointerWidth, table_width, GridWidths}
+use Rattle.sbr_grid.specs.Grid.{width_from, ptr_bits, CeilLog, PointerWidth, LeadingWidth, GridWidths}
 
 -- every width below k, and k itself, is too narrow
 under : (k n : ℕ) → ((j : ℕ) → j < k → 2 ^ j < n + 1) → 2 ^ k < n + 1 → (j : ℕ) → j < suc k → Dec (suc j ≤ k) → 2 ^ j < n + 1
@@ -44,30 +42,6 @@ pow_above (suc n) = omega (arith, pow_above n, pow-suc 2 n)
 pub pointer_width : PointerWidth
 pointer_width n = width_from_lem n 0 n (λ j l. absurd (omega arith)) (rw (native.Mathlib.Nat.zero-add) (pow_above n))
 
-pub width_none : (n : ℕ) → n ≡ 0 → 0 ≡ table_width n
-unfolding table_width
-width_none n e = rw e
-
-pub width_over : (n : ℕ) → 5 < n → 0 ≡ table_width n
-unfolding table_width
-width_over zero h = absurd (omega arith)
-width_over (suc n) h = rw (lt-leb (suc n) 5 h, le-leb 1 (suc n) (omega arith))
-
-pub width_at : (n : ℕ) → 0 < n → n ≤ 5 → get_or (1 ∷ 2 ∷ 2 ∷ 3 ∷ 3 ∷ []) (n - 1) 0 ≡ table_width n
-unfolding table_width width_from
-width_at zero h k = absurd (omega arith)
-width_at (suc zero) h k = refl
-width_at (suc (suc zero)) h k = refl
-width_at (suc (suc (suc zero))) h k = refl
-width_at (suc (suc (suc (suc zero)))) h k = refl
-width_at (suc (suc (suc (suc (suc zero))))) h k = refl
-width_at (suc (suc (suc (suc (suc (suc n)))))) h k = absurd (omega arith)
-
--- within the limits it is the standard's width
-pub width_ptr : (n : ℕ) → 0 < n → n ≤ 5 → table_width n ≡ ptr_bits n
-unfolding table_width
-width_ptr n h k = rw (le-leb 1 n h, le-leb n 5 k)
-
 -- a count of m binary digits has the width m
 digits_width : (n m : ℕ) → n < 2 ^ m → 2 ^ m ≤ 2 * n + 1 → ptr_bits n ≡ m
 digits_width n m h l = go (dec_le m (ptr_bits n))
@@ -79,7 +53,7 @@ digits_width n m h l = go (dec_le m (ptr_bits n))
         absurd (omega (arith, pow-suc 2 (ptr_bits n), (pointer_width n).holds))
 
 -- so the width is what the leading zeros leave of k digits: for every k, and every count that they hold
-pub leading_width : (k n : ℕ) → n < 2 ^ k → k - count_leading_zeros k n ≡ ptr_bits n
+pub leading_width : LeadingWidth
 leading_width k n h = let t = leading_length k n h in rw (digits_width n t.0 t.2 t.3) (omega arith)
 
 -- the counts of 1, 2 and 3 digits that grids have

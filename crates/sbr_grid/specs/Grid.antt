@@ -1,6 +1,7 @@
 -- The grid record: its classes, the view that has only the places in use, and the record of a view.
 -- From ISO/IEC 14496-3 Table 4.69 and docs/ORDER.md, RC.
-use Rattle.std.specs.Prelude.{◌≡◌, Bool, false, cond, ◌&&◌, List, [], ◌∷◌, ℕ, zero, suc, ◌+◌, ◌^◌, ◌≤◌, leb, ltb, length, Ok}
+use Rattle.std.specs.Prelude.{◌≡◌, Bool, false, cond, List, [], ◌∷◌, ℕ, zero, suc, ◌+◌, ◌-◌, ◌^◌, ◌≤◌, ◌<◌, leb, ltb, length, Ok}
+use Rattle.std.specs.Int.Count.{count_leading_zeros}
 use Rattle.sbr_grid.specs.declared.Refusal.TheVariants.{Record}
 use Rattle.sbr_grid.specs.Refusals.{Outcome, unless}
 use Rattle.sbr_grid.specs.declared.FrameClass.{FrameClass}
@@ -45,9 +46,9 @@ pub record CeilLog (n r : ℕ) : Type 0 where
 abbrev pub PointerWidth : Type 0
 PointerWidth = (n : ℕ) → CeilLog n (ptr_bits n)
 
--- the width that the program's table has: that of 1 to 5 envelopes, 0 for any other count
-unfoldable pub table_width : ℕ → ℕ
-table_width n = cond (leb 1 n && leb n 5) (ptr_bits n) 0
+-- of as many binary digits as hold a count, its leading zeros leave the width; proved there too
+abbrev pub LeadingWidth : Type 0
+LeadingWidth = (digits n : ℕ) → n < 2 ^ digits → digits - count_leading_zeros digits n ≡ ptr_bits n
 
 -- the widths that grids have: 1 bit for one envelope, 2 for two and three, 3 for four and five; proved there too
 abbrev pub GridWidths : Type 0

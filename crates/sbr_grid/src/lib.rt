@@ -3,7 +3,7 @@
 
 ghost use Rattle.std.specs.Prelude.{◌≡◌, true, false, ◌&&◌, ◌+◌, ◌%◌, ◌≤◌, eqb, replicate};
 ghost use Rattle.sbr_grid.specs.Refusals.{number_of};
-ghost use Rattle.sbr_grid.specs.Grid.{by_class, class_code, class_of, class_with_code, empty, first, noise_of, table_width};
+ghost use Rattle.sbr_grid.specs.Grid.{by_class, class_code, class_of, class_with_code, empty, first, noise_of, ptr_bits};
 ghost use Rattle.sbr_grid.specs.Times.{is_slot_count, empty_time};
 
 use std::fmt;
@@ -198,21 +198,12 @@ pub fn is_overridden(class: FrameClass, num_env: usize) -> bool
     class == FrameClass::FixFix && num_env == 1
 }
 
-// Bits of bs_pointer for 1 to 5 envelopes.
-const PTR_BITS: [u32; SbrGrid::MAX_NUM_ENV] = [1, 2, 2, 3, 3];
-
-// The width of bs_pointer; 0 for a count that no grid has, and no `Option`: what could not fail before does not begin to.
-#[tactic(auto, using(crate::proofs::Widths::width_none, crate::proofs::Widths::width_over, crate::proofs::Widths::width_at))]
+// The width of bs_pointer, ceil(log2(num_env + 1)): the binary digits of the count without its leading zeros, so 0 for none.
+#[tactic(auto, using(crate::proofs::Widths::leading_width))]
 pub fn ptr_bits(num_env: usize) -> u32
-    ensures { result ≡ table_width num_env }
+    ensures { result ≡ ptr_bits num_env }
 {
-    if num_env == 0 {
-        return 0;
-    }
-    if SbrGrid::MAX_NUM_ENV < num_env {
-        return 0;
-    }
-    PTR_BITS[num_env - 1]
+    usize::BITS - usize::leading_zeros(num_env)
 }
 
 // Why a call gives no result, with the number of each refusal.

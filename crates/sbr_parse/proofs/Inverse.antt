@@ -15,7 +15,7 @@ use Rattle.bits.specs.Bits.{bits_of}
 use Rattle.sbr_grid.specs.declared.FrameClass.{FrameClass}
 use Rattle.sbr_grid.specs.declared.FrameClass.TheVariants.{FixFix, FixVar, VarFix, VarVar}
 use Rattle.sbr_grid.specs.Grid.{by_class, class_code, class_of, width_from, ptr_bits, Grid, num_env_of}
-use Rattle.sbr_grid.proofs.Widths.{pointer_width}
+use Rattle.sbr_grid.proofs.Widths.{pointer_width, pointer_narrow}
 use Rattle.sbr_grid.proofs.Laws.{class_of_code, code_lt}
 use Rattle.sbr_writer.specs.Syntax.{twos, env_code, body_bits, grid_bits}
 use Rattle.sbr_writer.specs.Write.{every, small, all_are, class_fits, fields_fit_of, writable}
@@ -169,7 +169,7 @@ seen_behind : (c : FrameClass) (b0 b1 j k n : ℕ) (s : List Bool → List Bool)
 unfolding behind_counts
 seen_behind c b0 b1 j k n s l0 l1 lj lk l h q =
     let m = j + k + 1 in
-    let w : ptr_bits m ≤ 3 = (pointer_width m).least 3 (omega arith) in
+    let w = pointer_narrow m (omega arith) in
     seen_then _ _ n (seen_lengths j) (omega arith)
     (λ rel0 r0. seen_then _ _ (n - 2 * j) (seen_lengths k) (omega arith)
     (λ rel1 r1. seen_then _ _ (n - 2 * j - 2 * k) (seen_field (ptr_bits m)) (omega arith)

@@ -17,8 +17,8 @@ use Rattle.std.proofs.lemmas.Bool.{and_parts}
 use Rattle.bits.specs.Bits.{bit_n, bit_at, bits_of, num_from, num_of}
 use Rattle.bits.specs.declared.Window.{Window}
 use Rattle.bits.proofs.Numbers.{num_from_lem, num_after, num_append, num_lt, length-bits_of, bits_num, bit_lt}
-use Rattle.sbr_grid.specs.Grid.{table_width}
-use Rattle.sbr_grid.proofs.Widths.{pointer_width, width_ptr}
+use Rattle.sbr_grid.specs.Grid.{ptr_bits}
+use Rattle.sbr_grid.proofs.Widths.{pointer_width}
 use Rattle.sbr_writer.specs.Syntax.{env_code, twos}
 use Rattle.sbr_writer.specs.Write.{every, small}
 use Rattle.sbr_writer.specs.Code.{appended, Behind, Space, joined_twos, joined_flags}
@@ -130,9 +130,6 @@ env_code_two n h k = rw (lt-leb n 1 h, le-leb n 2 k)
 pub env_code_more : (n : ℕ) → 2 < n → 2 ≡ env_code n
 env_code_more n h = rw (lt-leb n 1 (omega arith), lt-leb n 2 h)
 
--- a pointer up to the envelope count fits its width, which is at most 3
-pub pointer_fits : (n p w : ℕ) → 0 < n → n ≤ 5 → p ≤ n → w ≡ table_width n → p < 2 ^ w
-pointer_fits n p w h k l e = rw (e, width_ptr n h k) (omega (arith, (pointer_width n).holds))
-
-pub pointer_narrow : (n w : ℕ) → 0 < n → n ≤ 5 → w ≡ table_width n → w ≤ 3
-pointer_narrow n w h k e = rw (e, width_ptr n h k) ((pointer_width n).least 3 (omega arith))
+-- a pointer up to the envelope count fits its width
+pub pointer_fits : (n p w : ℕ) → p ≤ n → w ≡ ptr_bits n → p < 2 ^ w
+pointer_fits n p w l e = rw e (omega (arith, (pointer_width n).holds))

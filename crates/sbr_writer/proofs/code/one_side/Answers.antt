@@ -1,10 +1,9 @@
 -- `sbr_writer::code::one_side` meets its contract.
-use mathlib.Core.Path.{◌∙◌}
 use mathlib.Core.List.{[], ◌∷◌}
 use Prim.Native.Nat.{◌+◌, ◌≤◌}
 use lib.ListN.{length}
-use Rattle.sbr_grid.proofs.Widths.{width_ptr}
-use Rattle.sbr_writer.proofs.Gather.{length-twos, two_small, chain, space_then, narrow, pointer_fits, pointer_narrow}
+use Rattle.sbr_grid.proofs.Widths.{pointer_narrow}
+use Rattle.sbr_writer.proofs.Gather.{length-twos, two_small, chain, space_then, narrow, pointer_fits}
 use Rattle.sbr_writer.specs.Code.{Space}
 use native.Mathlib.Omega.{arith}
 use Rattle.sbr_writer.proofs.code.one_side.Goals as goal
@@ -26,14 +25,12 @@ pub push-requires : goal.push-requires
 push-requires c =
     let rel = c.args.rel.now in
     let space : Space c.push_twos-counted.result 9 = space_then c.requires.space c.push_twos-counted.ensures (omega (arith, length-twos (c.args.bord ∷ length rel ∷ []))) in
-    let w : c.ptr_bits.result ≤ 3 = pointer_narrow (length rel + 1) _ (omega arith) (omega arith) c.ptr_bits.ensures in (
+    let w : c.ptr_bits.result ≤ 3 = rw c.ptr_bits.ensures (pointer_narrow (length rel + 1) (omega arith)) in (
       space_then space c.push_twos-lengths.ensures (omega (arith, length-twos rel, w)),
-      pointer_fits (length rel + 1) c.args.pointer _ (omega arith) (omega arith) c.requires.pointed c.ptr_bits.ensures,
+      pointer_fits (length rel + 1) c.args.pointer _ c.requires.pointed c.ptr_bits.ensures,
     )
 
 pub returns : goal.returns
 returns c =
-    let rel = c.args.rel.now in
-    let e = c.ptr_bits.ensures ∙ width_ptr (length rel + 1) (omega arith) (omega arith) in
-    rw (← e)
+    rw (← c.ptr_bits.ensures)
     (chain c.push_twos-counted.ensures (chain c.push_twos-lengths.ensures c.push.ensures))

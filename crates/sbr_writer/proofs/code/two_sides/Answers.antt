@@ -1,12 +1,11 @@
 -- `sbr_writer::code::two_sides` meets its contract.
-use mathlib.Core.Path.{◌∙◌}
 use mathlib.Core.Bool.{false}
 use mathlib.Core.List.{[], ◌∷◌}
 use Prim.Native.Nat.{◌-◌, ◌*◌, ◌≤◌}
 use Rattle.sbr_grid.proofs.First.{first-length}
-use Rattle.sbr_grid.proofs.Widths.{width_ptr}
+use Rattle.sbr_grid.proofs.Widths.{pointer_narrow}
 use Rattle.sbr_writer.specs.Code.{Space}
-use Rattle.sbr_writer.proofs.Gather.{length-twos, four_small, chain, narrow, space_then, pointer_fits, pointer_narrow}
+use Rattle.sbr_writer.proofs.Gather.{length-twos, four_small, chain, narrow, space_then, pointer_fits}
 use Rattle.sbr_writer.proofs.Body.{varvar_told}
 use native.Mathlib.Omega.{arith}
 use Rattle.sbr_writer.proofs.code.two_sides.Goals as goal
@@ -58,19 +57,17 @@ push-requires c =
     let space1 : Space c.push_twos-counted.result 11 = space_then c.requires.space c.push_twos-counted.ensures (omega (arith, length-twos (c.args.g.var_bord_0 ∷ c.args.g.var_bord_1 ∷ c.args.g.num_rel_0 ∷ c.args.g.num_rel_1 ∷ []))) in
     let space2 : Space c.push_twos-leading.result (11 - 2 * c.args.g.num_rel_0) = space_then space1 c.push_twos-leading.ensures (rw (length-twos, c.leading.ensures) (omega (arith, t.count_0, t.few_0))) in
     let space3 : Space c.push_twos-lengths.result 3 = space_then space2 c.push_twos-lengths.ensures (rw (length-twos, c.trailing.ensures) (omega (arith, t.count_1, t.total, t.most))) in
-    let width : c.ptr_bits.result ≤ 3 = pointer_narrow c.args.g.num_env _ (omega (arith, t.total)) t.most c.ptr_bits.ensures in
-    (narrow space3 width, pointer_fits c.args.g.num_env _ _ (omega (arith, t.total)) t.most t.pointed c.ptr_bits.ensures)
+    let width : c.ptr_bits.result ≤ 3 = rw c.ptr_bits.ensures (pointer_narrow c.args.g.num_env t.most) in
+    (narrow space3 width, pointer_fits c.args.g.num_env _ _ t.pointed c.ptr_bits.ensures)
 
 pub returns : goal.returns
 returns c =
-    let t = varvar_told c.args.g c.requires.fields c.requires.counts in
     let g = c.args.g in
-    let e = c.ptr_bits.ensures ∙ width_ptr g.num_env (omega (arith, t.total)) t.most in
     rw (
       first-length false g.num_env g.freq_res,
       first-length 0 g.num_rel_0 g.rel_bord_0,
       first-length 0 g.num_rel_1 g.rel_bord_1,
-      ← e,
+      ← c.ptr_bits.ensures,
       ← c.leading.ensures,
       ← c.trailing.ensures,
     )
