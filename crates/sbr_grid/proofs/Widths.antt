@@ -3,9 +3,10 @@ use mathlib.Core.Path.{◌≡◌}
 use mathlib.Core.Bool.{cond}
 use Prim.Native.Nat.{ℕ, zero, suc, ◌+◌, ◌*◌, ◌^◌, ◌≤◌, ◌<◌}
 use native.Mathlib.Omega.{arith}
-use native.Mathlib.Nat.{pow-suc, add-suc, suc-add}
+use native.Mathlib.Nat.{pow-suc, add-suc, suc-add, le_trans}
 use native.Mathlib.Decide.{dec_le}
-use borrow.Author.Tests.{le-leb, lt-leb}
+use borrow.Author.Tests.{le-leb, lt-leb, leb-true, leb-false}
+use Rattle.std.proofs.lemmas.Bool.{cond_both}
 use lib.Count.{leading_length}
 use lib.Dec.{leb}
 use lib.Pow.{pow_mono}
@@ -40,7 +41,7 @@ pow_above (suc n) = omega (arith, pow_above n, pow-suc 2 n)
 
 -- ptr_bits n is ceil(log2(n + 1))
 pub pointer_width : PointerWidth
-pointer_width n = width_from_lem n 0 n (λ j l. absurd (omega arith)) (rw (native.Mathlib.Nat.zero-add) (pow_above n))
+pointer_width n = width_from_lem _ _ n (λ j l. absurd (omega arith)) (le_trans (pow_above n) (pow_mono (omega arith)))
 
 -- a count of m binary digits has the width m
 digits_width : (n m : ℕ) → n < 2 ^ m → 2 ^ m ≤ 2 * n + 1 → ptr_bits n ≡ m
@@ -56,14 +57,17 @@ digits_width n m h l = go (dec_le m (ptr_bits n))
 pub leading_width : LeadingWidth
 leading_width k n h = let t = leading_length k n h in rw (digits_width n t.0 t.2 t.3) (omega arith)
 
--- the counts of 1, 2 and 3 digits that grids have
+-- a width that hangs on a test of the count
+up_to : (n b w r : ℕ) → (n ≤ b → ptr_bits n ≡ w) → (b < n → ptr_bits n ≡ r) → ptr_bits n ≡ cond (leb n b) w r
+up_to n b w r f g = cond_both (leb n b) w r (λ m. ptr_bits n ≡ m) (λ e. f (leb-true n b e)) (λ e. g (leb-false n b e))
+
+-- the counts of 1, 2 and 3 digits that grids have; each width is the one that the statement gives
 pub grid_widths : GridWidths
-grid_widths n h k = go (dec_le n 1) (dec_le n 3)
-  where
-    go : Dec (n ≤ 1) → Dec (n ≤ 3) → ptr_bits n ≡ cond (leb n 1) 1 (cond (leb n 3) 2 3)
-    go (yes a) b = rw (le-leb n 1 a) (digits_width n 1 (omega arith) (omega arith))
-    go (no a) (yes b) = rw (lt-leb n 1 (omega arith), le-leb n 3 b) (digits_width n 2 (omega arith) (omega arith))
-    go (no a) (no b) = rw (lt-leb n 1 (omega arith), lt-leb n 3 (omega arith)) (digits_width n 3 (omega arith) (omega arith))
+grid_widths n h k = up_to n _ _ _
+    (λ a. digits_width n _ (omega arith) (omega arith))
+    (λ a. up_to n _ _ _
+    (λ b. digits_width n _ (omega arith) (omega arith))
+    (λ b. digits_width n _ (omega arith) (omega arith)))
 
 -- the pointer of a grid has at most three bits
 pub pointer_narrow : (n : ℕ) → n ≤ 5 → ptr_bits n ≤ 3
