@@ -36,7 +36,9 @@ pub fn is_flagged(range: &[u8], count: usize) -> bool
     count <= range.len() && are_flags(&range[..count])
 }
 
-// As many bytes of the range as the count says; the places past them are 0.
+// As many bytes of the range as the count says; the places past them are 0. Not inlined, here and in `flags`: what makes a record stays small enough to be
+// inlined itself.
+#[inline(never)]
 fn entries<const N: usize>(range: &[u8], count: usize) -> [u8; N]
     ensures { result ≡ first 0 N (first 0 count range.now) }
 {
@@ -50,11 +52,12 @@ fn are_high(bytes: [u8; SbrGrid::MAX_NUM_ENV]) -> [bool; SbrGrid::MAX_NUM_ENV]
     bytes.map(|byte| byte == MAX_FLAG)
 }
 
-// The entries as flags.
+// The same as flags; not by way of `entries`, which is a call.
+#[inline(never)]
 pub fn flags(range: &[u8], count: usize) -> [bool; SbrGrid::MAX_NUM_ENV]
     ensures { result ≡ first false 5 (map (λ b. eqb b 1) (first 0 count range.now)) }
 {
-    are_high(entries(range, count))
+    are_high(sbr_grid::padded(&range[..count.min(range.len())], 0))
 }
 
 // No list is shorter than its count.
@@ -99,7 +102,15 @@ fn record(
     })
 }
 
-// What writing and energies need: the flags must be there, each 0 or 1.
+// No class above 3, and no list shorter than its count.
+#[tactic(auto, unfolding(crate::specs::Handed::formed))]
+fn is_formed(h: Handed, rel_bord_0: &[u8], rel_bord_1: &[u8]) -> bool
+    ensures { result ≡ formed h rel_bord_0.now rel_bord_1.now }
+{
+    h.frame_class <= FrameClass::MAX_CODE && lists_fit(h, rel_bord_0, rel_bord_1)
+}
+
+// What writing and energies need: the flags must be there, each 0 or 1. They are looked at last, since there may be any number of them.
 pub fn form_record(
     h: Handed,
     freq_res: &[u8],
@@ -110,7 +121,7 @@ pub fn form_record(
         (formable h freq_res.now rel_bord_0.now rel_bord_1.now)
         (Ok (grid_from h freq_res.now rel_bord_0.now rel_bord_1.now))) }
 {
-    if !is_flagged(freq_res, h.num_env as usize) {
+    if !is_formed(h, rel_bord_0, rel_bord_1) || !is_flagged(freq_res, h.num_env as usize) {
         return Err(Refusal::Record);
     }
     record(h, freq_res, rel_bord_0, rel_bord_1)

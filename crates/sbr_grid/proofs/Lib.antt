@@ -1,4 +1,5 @@
 pub mod First
+pub mod Made
 pub mod Laws
 pub mod Widths
 pub mod Outcomes

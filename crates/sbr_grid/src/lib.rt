@@ -1,7 +1,7 @@
 // The grid record of src/sbr_grid.rs, with its limits, the record of its time grid, and the refusals of every call.
 #![tactic(auto)]
 
-ghost use Rattle.std.specs.Prelude.{◌≡◌, true, false, ◌&&◌, ◌+◌, ◌%◌, ◌≤◌, eqb, replicate};
+ghost use Rattle.std.specs.Prelude.{◌≡◌, true, false, ◌&&◌, ◌+◌, ◌%◌, ◌≤◌, eqb, replicate, get_or};
 ghost use Rattle.sbr_grid.specs.Refusals.{number_of};
 ghost use Rattle.sbr_grid.specs.Grid.{by_class, class_code, class_of, class_with_code, empty, first, noise_of, ptr_bits};
 ghost use Rattle.sbr_grid.specs.Times.{is_slot_count, empty_time};
@@ -79,20 +79,21 @@ impl fmt::Display for FrameClass {
 // The fields of sbr_grid() for one channel. A list is an array with a count beside it, since the memory is fixed and
 // C is given every place; only the places below the count are in use. `resolutions`, `leading` and `trailing` hand out the slices.
 // No invariant bounds the counts: C may hand in any, and whether they fit is what calls test.
+// The wide numbers stand first and nothing unused between the others: a copy would move such bytes piece by piece, each piece waiting for the one before.
 #[derive(Clone, Copy)]
 pub struct SbrGrid {
-    pub frame_class: FrameClass,
     // bs_num_env: the count of freq_res.
     pub num_env: usize,
     pub num_noise: usize,
+    pub num_rel_0: usize,
+    pub num_rel_1: usize,
+    pub rel_bord_0: [u8; SbrGrid::MAX_REL_BORD],
+    pub rel_bord_1: [u8; SbrGrid::MAX_REL_BORD],
     // True is high resolution.
     pub freq_res: [bool; SbrGrid::MAX_NUM_ENV],
+    pub frame_class: FrameClass,
     pub var_bord_0: u8,
     pub var_bord_1: u8,
-    pub rel_bord_0: [u8; SbrGrid::MAX_REL_BORD],
-    pub num_rel_0: usize,
-    pub rel_bord_1: [u8; SbrGrid::MAX_REL_BORD],
-    pub num_rel_1: usize,
     pub pointer: u8,
     pub amp_res_override: bool,
 }
@@ -165,14 +166,18 @@ pub fn front<T, const N: usize>(items: &[T; N], count: usize) -> &[T]
     &items[..count]
 }
 
-// The first N items of a list, with `fill` behind them where it has fewer.
+// The item at a place; `fill` past the end of the list.
+fn item_or<T: Copy>(items: &[T], i: usize, fill: T) -> T
+    ensures { result ≡ get_or items.now i fill }
+{
+    if i < items.len() { items[i] } else { fill }
+}
+
+// The first N items of a list, with `fill` behind them where it has fewer. Place by place: a copy of a length known only as it runs is a call.
 pub fn padded<T: Copy, const N: usize>(items: &[T], fill: T) -> [T; N]
     ensures { result ≡ first fill N items.now }
 {
-    let count = items.len().min(N);
-    let mut out = [fill; N];
-    out[..count].copy_from_slice(&items[..count]);
-    out
+    std::array::from_fn(|i| item_or(items, i, fill))
 }
 
 // One resolution for each of num_env envelopes, as many as there are places; the places behind them are false.

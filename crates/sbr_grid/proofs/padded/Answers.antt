@@ -1,6 +1,7 @@
--- The items that fit, over places that all have the fill.
-use Rattle.sbr_grid.proofs.First.{first_over}
+-- Each place has the list's item or the fill, and no call changes what the next one sees.
+use Rattle.std.proofs.Common.{rules}
+use Rattle.sbr_grid.proofs.Made.{made_first}
 use Rattle.sbr_grid.proofs.padded.Goals as goal
 
 pub returns : goal.returns
-returns g c = rw c.copy_from_slice.ensures.after (first_over c.args.fill g.row.N c.min-count.result c.args.items.now c.min-count.ensures)
+returns g c = made_first _ _ c.args.fill c.args.items.now (λ i y f k. search rules) _ _ c.from_fn.ensures.items
