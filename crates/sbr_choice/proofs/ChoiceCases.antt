@@ -23,10 +23,10 @@ use Rattle.sbr_choice.specs.Choice.{solver, double_first, attack_grid, plain_gri
 -- ---- the search and the double grid of an array
 
 -- with k onsets or more the search is made, and with fewer it is not
-solver_many : (k lead n : ℕ) (o : Onsets) → k ≤ o.count → solver k (onset_list o) lead n ≡ multi_onset_grid (onset_list o) lead n
+pub solver_many : (k lead n : ℕ) (o : Onsets) → k ≤ o.count → solver k (onset_list o) lead n ≡ multi_onset_grid (onset_list o) lead n
 solver_many k lead n o h = rw (first-length 0 o.count o.slot, le-leb k o.count h)
 
-solver_few : (k lead n : ℕ) (o : Onsets) → o.count < k → solver k (onset_list o) lead n ≡ None
+pub solver_few : (k lead n : ℕ) (o : Onsets) → o.count < k → solver k (onset_list o) lead n ≡ None
 solver_few k lead n o h = rw (first-length 0 o.count o.slot, lt-leb k o.count h)
 
 -- the search of the onsets where they are k

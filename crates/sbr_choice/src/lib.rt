@@ -68,7 +68,8 @@ fn attack_grid(attacks: Attacks) -> SbrGrid
     single_grid(first_attack(attacks))
 }
 
-// No variable borders but the lead.
+// No variable borders but the lead. Inlined: a record that is handed out would be copied.
+#[inline(always)]
 #[tactic(auto, unfolding(crate::specs::Choice::plain_grid))]
 fn plain_grid(num_env: usize, high: bool, frame: Frame) -> SbrGrid
     requires { (1 ≤ num_env) × (num_env ≤ 4) }

@@ -24,7 +24,7 @@ use Rattle.sbr_named.proofs.Shapes.{listed}
 -- ---- lists by their places
 
 -- past the end of a list stands 0
-listed_past : (f : ℕ → ℕ) (k i : ℕ) → k ≤ i → get_or (list_from f 0 k) i 0 ≡ 0
+pub listed_past : (f : ℕ → ℕ) (k i : ℕ) → k ≤ i → get_or (list_from f 0 k) i 0 ≡ 0
 listed_past f k i h = get_or-eq_default (list_from f 0 k) 0 {n = i} (omega (arith, length-list_from f 0 k))
 
 -- a place of the lengths of a side is the length of that envelope
@@ -55,11 +55,11 @@ length-trailing t le j = length-list_from _ 0 j
 -- ---- counts
 
 -- a record has at most four leading lengths
-lead_few : (c : FrameClass) (le k : ℕ) → le ≤ 5 → k < 7 → by_class c 0 0 (le - 1) (k - 3) ≤ 4
+pub lead_few : (c : FrameClass) (le k : ℕ) → le ≤ 5 → k < 7 → by_class c 0 0 (le - 1) (k - 3) ≤ 4
 lead_few c le k a b = each_class (λ x. x ≤ 4) c 0 0 (le - 1) (k - 3) (omega arith) (omega arith) (omega arith) (omega arith)
 
 -- and fewer trailing lengths than envelopes
-trail_few : (c : FrameClass) (le j : ℕ) → 0 < le → by_class c 0 (le - 1) 0 (le - 1 - j) < le
+pub trail_few : (c : FrameClass) (le j : ℕ) → 0 < le → by_class c 0 (le - 1) 0 (le - 1 - j) < le
 trail_few c le j a = each_class (λ x. x < le) c 0 (le - 1) 0 (le - 1 - j) (omega arith) (omega arith) (omega arith) (omega arith)
 
 -- FIXFIX sends no pointer, and the one for its mark is 0

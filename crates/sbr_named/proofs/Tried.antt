@@ -20,10 +20,10 @@ use Rattle.sbr_named.proofs.Stored.{candidate-view}
 
 module _ (n : ℕ) (bs : List ℕ) (res : List Bool) (mark : ℤ) (one : 0 < length res) (few : length res ≤ 5) where
   -- the record of shape k, and whether it has what is named
-  abbrev tried : ℕ → Grid
+  abbrev pub tried : ℕ → Grid
   tried k = candidate n bs res mark (shape_at k)
 
-  abbrev passes : ℕ → Bool
+  abbrev pub passes : ℕ → Bool
   passes k = has_borders n bs mark (tried k)
 
   -- what the program makes of a shape, and its test of that

@@ -141,8 +141,8 @@ impl NamedFrame<'_> {
         ensures { let f = self.now in result ≡ has_times f.borders.now f.l_a (time_grid f.num_slots (view_of grid)) }
     {
         // Tried: `is_ok_and`; what `has_times` asks of a time grid isn't known in a closure.
-        match sbr_time_grid::derive_time_grid(grid, self.num_slots) {
-            Ok(time) => self.has_times(&time),
+        match &sbr_time_grid::derive_time_grid(grid, self.num_slots) {
+            Ok(time) => self.has_times(time),
             Err(_) => false,
         }
     }

@@ -19,6 +19,16 @@ pub struct Parsed {
     pub left: u32,
 }
 
+// What FixVar, VarFix and VarVar send before the relative lengths: a border byte and a count for each side, 0 for a side that the class does not have.
+#[derive(Clone, Copy)]
+struct Head {
+    frame_class: FrameClass,
+    var_bord_0: u8,
+    var_bord_1: u8,
+    num_rel_0: usize,
+    num_rel_1: usize,
+}
+
 // A number without its k lowest bits.
 #[tactic(auto, using(crate::proofs::Taken::none_above))]
 fn above(v: u32, k: u32) -> u32
@@ -119,10 +129,11 @@ fn fix_fix(body: Window) -> Result<Parsed, Refusal>
 }
 
 // The fields behind the counts of relative lengths, for each class that sends such counts: `head` has what stands up to there.
-fn behind_counts(head: SbrGrid, body: Window) -> Result<Parsed, Refusal>
+// Inlined, since FixVar and VarFix have no lengths on one side: their copies leave out that step.
+#[inline(always)]
+fn behind_counts(head: Head, body: Window) -> Result<Parsed, Refusal>
     requires count { head.num_rel_0 + head.num_rel_1 + 1 ≤ 5 }
     requires counted { by_class head.frame_class true false false false ≡ false }
-    requires plain { head.amp_res_override ≡ false }
     ensures { result ≡ result_map parsed
         (behind_counts head.frame_class head.var_bord_0 head.var_bord_1 head.num_rel_0 head.num_rel_1 (window_bits body)) }
 {
@@ -133,13 +144,18 @@ fn behind_counts(head: SbrGrid, body: Window) -> Result<Parsed, Refusal>
     let (flags, rest) = take(behind_pointer, num_env as u32)?;
     Ok(Parsed {
         grid: SbrGrid {
+            frame_class: head.frame_class,
             num_env,
             num_noise: sbr_grid::noise_of(num_env),
             freq_res: resolutions(head.frame_class, flags, num_env),
+            var_bord_0: head.var_bord_0,
+            var_bord_1: head.var_bord_1,
             rel_bord_0: lengths(leading, head.num_rel_0),
+            num_rel_0: head.num_rel_0,
             rel_bord_1: lengths(trailing, head.num_rel_1),
+            num_rel_1: head.num_rel_1,
             pointer: pointer as u8,
-            ..head
+            amp_res_override: false,
         },
         left: rest.width,
     })
@@ -155,20 +171,22 @@ fn one_side(class: FrameClass, body: Window) -> Result<Parsed, Refusal>
     let count = (side % 4) as usize;
     match class {
         FrameClass::FixVar => {
-            let head = SbrGrid {
+            let head = Head {
                 frame_class: class,
+                var_bord_0: 0,
                 var_bord_1: bord,
+                num_rel_0: 0,
                 num_rel_1: count,
-                ..SbrGrid::empty()
             };
             behind_counts(head, rest)
         }
         _ => {
-            let head = SbrGrid {
+            let head = Head {
                 frame_class: class,
                 var_bord_0: bord,
+                var_bord_1: 0,
                 num_rel_0: count,
-                ..SbrGrid::empty()
+                num_rel_1: 0,
             };
             behind_counts(head, rest)
         }
@@ -181,13 +199,12 @@ fn var_var(body: Window) -> Result<Parsed, Refusal>
 {
     let (sides, rest) = take(body, 8)?;
     let [b0, b1, j, k] = four_twos(sides);
-    let head = SbrGrid {
+    let head = Head {
         frame_class: FrameClass::VarVar,
         var_bord_0: b0,
         var_bord_1: b1,
         num_rel_0: j as usize,
         num_rel_1: k as usize,
-        ..SbrGrid::empty()
     };
     if SbrGrid::MAX_NUM_ENV < head.num_rel_0 + head.num_rel_1 + 1 {
         return Err(Refusal::EnvelopeCount);

@@ -62,6 +62,8 @@ fn are_spread(envelope: Envelope, bands: &[u8], means: &mut [f64; MAX_BAND as us
 
 impl<'a> FrameSamples<'a> {
     // A frame and the 8 slots behind it. Refused where the slot count is neither 15 nor 16, then by the band tables, then where there are too few samples.
+    // Inlined, as `derive_time_grid`: what is handed out would be copied.
+    #[inline(always)]
     #[tactic(auto, using(sbr_grid::proofs::Slots::slots_few))]
     pub fn new(
         x: &'a [f64],

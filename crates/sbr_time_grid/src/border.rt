@@ -141,7 +141,9 @@ impl Frame {
         let step = nint_ratio(self.num_slots, self.grid.num_env as u32);
         let mut b = self.abs_bord_lead();
         t[0] = b;
-        let lengths = front(&self.grid.rel_bord_0, n_rel_lead(&self.grid));
+        // A copy of these four bytes: of a record from which a slice is lent, the optimiser keeps a whole copy.
+        let stored = self.grid.rel_bord_0;
+        let lengths = front(&stored, n_rel_lead(&self.grid));
         for (l, raw) in lengths.iter().enumerate() {
             b += self.rel_bord_lead(step, *raw);
             t[l + 1] = b;
@@ -158,7 +160,8 @@ impl Frame {
         let le = self.grid.num_env;
         let mut b = self.abs_bord_trail();
         t[le] = b;
-        let lengths = front(&self.grid.rel_bord_1, n_rel_trail(&self.grid));
+        let stored = self.grid.rel_bord_1;
+        let lengths = front(&stored, n_rel_trail(&self.grid));
         for (l, raw) in lengths.iter().enumerate() {
             b = b.saturating_sub(slots_of(*raw));
             t[le - 1 - l] = b;

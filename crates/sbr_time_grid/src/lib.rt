@@ -13,7 +13,9 @@ use sbr_grid::{Refusal, SbrGrid, TimeGrid};
 mod border;
 mod noise;
 
-// The time grid of a record; refused where the slot count is neither 15 nor 16, then where the record has none.
+// The time grid of a record; refused where the slot count is neither 15 nor 16, then where the record has none. Inlined where it is called: an answer
+// that is handed out is copied, and the copy waits for what was just stored.
+#[inline(always)]
 pub fn derive_time_grid(grid: SbrGrid, num_time_slots: usize) -> Result<TimeGrid, Refusal>
     ensures { result ≡ result_map time_record (time_grid num_time_slots (view_of grid)) }
 {

@@ -40,3 +40,18 @@ unfolding write_grid
 put l p g w q m e f a b =
     rw (e, a, b, f, zero-add (length (grid_bits g)), bits_num (grid_bits g), le-leb (length (grid_bits g)) 32 (omega (arith, length_grid g e)))
     (room (room_for (length l) p (length (grid_bits g))) l (put_bits l p (grid_bits g)) (p + length (grid_bits g)))
+
+-- the two halves of each apart, which is how the search takes them
+pub unwritable_answer : (l : List ℕ) (p : ℕ) (g : Grid) → writable g ≡ false → Err Record ≡ result_map (λ w. w.position) (write_grid l p g)
+unwritable_answer l p g e = (unwritable l p g e).0
+
+pub unwritable_bytes : (l : List ℕ) (p : ℕ) (g : Grid) → writable g ≡ false → l ≡ bytes_after l (write_grid l p g)
+unwritable_bytes l p g e = (unwritable l p g e).1
+
+pub put_answer : (l : List ℕ) (p : ℕ) (g : Grid) (w : Window) → writable g ≡ true → w ≡ window_for (grid_bits g)
+    → ok_or (placed l p w.width) Room ≡ result_map (λ w. w.position) (write_grid l p g)
+put_answer l p g w e a = (put l p g w _ _ e a refl refl).0
+
+pub put_bytes : (l : List ℕ) (p : ℕ) (g : Grid) (w : Window) → writable g ≡ true → w ≡ window_for (grid_bits g)
+    → after_field l p w.width w.value ≡ bytes_after l (write_grid l p g)
+put_bytes l p g w e a = (put l p g w _ _ e a refl refl).1

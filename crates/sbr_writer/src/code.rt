@@ -78,11 +78,11 @@ fn one_side(bits: Window, bord: u8, rel: &[u8], pointer: u8) -> Window
 
 // Border bytes, counts, lengths and pointer of VarVar.
 #[tactic(auto, using(crate::proofs::Body::varvar_told))]
-fn two_sides(bits: Window, g: SbrGrid) -> Window
+fn two_sides(bits: Window, g: &SbrGrid) -> Window
     requires space { Space bits 19 }
-    requires fields { fields_fit_of (view_of g) ≡ true }
-    requires counts { class_fits FrameClass.VarVar (view_of g) ≡ true }
-    ensures { Behind bits (sides_bits (view_of g)) result }
+    requires fields { fields_fit_of (view_of g.now) ≡ true }
+    requires counts { class_fits FrameClass.VarVar (view_of g.now) ≡ true }
+    ensures { Behind bits (sides_bits (view_of g.now)) result }
 {
     let counts = [
         g.var_bord_0,
@@ -98,10 +98,10 @@ fn two_sides(bits: Window, g: SbrGrid) -> Window
 
 // What follows the class, up to the resolutions.
 #[tactic(auto, using(crate::proofs::Body::fixvar_told, crate::proofs::Body::varfix_told))]
-fn push_counts(bits: Window, g: SbrGrid) -> Window
+fn push_counts(bits: Window, g: &SbrGrid) -> Window
     requires space { Space bits 19 }
-    requires writable { writable (view_of g) ≡ true }
-    ensures { Behind bits (before_flags g.frame_class (view_of g)) result }
+    requires writable { writable (view_of g.now) ≡ true }
+    ensures { Behind bits (before_flags g.now.frame_class (view_of g.now)) result }
 {
     match g.frame_class {
         FrameClass::FixFix => push(bits, env_code(g.num_env), 2),
@@ -112,11 +112,11 @@ fn push_counts(bits: Window, g: SbrGrid) -> Window
 }
 
 // The resolutions, as the class sends them: FixFix the first alone, FixVar the last one first.
-fn push_flags(bits: Window, g: SbrGrid) -> Window
-    requires space { Space bits g.num_env }
-    requires some { 0 < g.num_env }
-    requires few { g.num_env ≤ 5 }
-    ensures { Behind bits (sent_flags g.frame_class (first false g.num_env g.freq_res)) result }
+fn push_flags(bits: Window, g: &SbrGrid) -> Window
+    requires space { Space bits g.now.num_env }
+    requires some { 0 < g.now.num_env }
+    requires few { g.now.num_env ≤ 5 }
+    ensures { Behind bits (sent_flags g.now.frame_class (first false g.now.num_env g.now.freq_res)) result }
 {
     let count = g.num_env as u32;
     match g.frame_class {
@@ -128,9 +128,9 @@ fn push_flags(bits: Window, g: SbrGrid) -> Window
 
 // All bits of a writable record. A type that held that would be opened at once by each of the three that ask it: this, `push_counts` and sbr_make's
 // `add_frame`.
-pub fn grid_bits(g: SbrGrid) -> Window
-    requires { writable (view_of g) ≡ true }
-    ensures { result ≡ window_for (grid_bits (view_of g)) }
+pub fn grid_bits(g: &SbrGrid) -> Window
+    requires { writable (view_of g.now) ≡ true }
+    ensures { result ≡ window_for (grid_bits (view_of g.now)) }
 {
     let class = push(Window { value: 0, width: 0 }, u32::from(g.frame_class), 2);
     let counts = push_counts(class, g);

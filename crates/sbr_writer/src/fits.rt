@@ -22,8 +22,8 @@ fn all_are(b: bool, flags: &[bool]) -> bool
 }
 
 // The envelope count, the border bytes and the counts of lengths are within a record's limits.
-fn numbers_fit(g: SbrGrid) -> bool
-    ensures { result ≡ numbers_fit g }
+fn numbers_fit(g: &SbrGrid) -> bool
+    ensures { result ≡ numbers_fit g.now }
 {
     1 <= g.num_env
         && g.num_env <= SbrGrid::MAX_NUM_ENV
@@ -34,16 +34,16 @@ fn numbers_fit(g: SbrGrid) -> bool
 }
 
 // So are the stored lengths, and the pointer.
-fn lists_fit(g: SbrGrid) -> bool
-    requires { (g.num_rel_0 ≤ 4) × (g.num_rel_1 ≤ 4) }
-    ensures { result ≡ lists_fit g }
+fn lists_fit(g: &SbrGrid) -> bool
+    requires { (g.now.num_rel_0 ≤ 4) × (g.now.num_rel_1 ≤ 4) }
+    ensures { result ≡ lists_fit g.now }
 {
     small(g.leading()) && small(g.trailing()) && g.pointer as usize <= g.num_env
 }
 
 // What no class can send is refused first, in fields that the class does not send too.
-fn fields_fit(g: SbrGrid) -> bool
-    ensures { result ≡ fields_fit_of (view_of g) }
+fn fields_fit(g: &SbrGrid) -> bool
+    ensures { result ≡ fields_fit_of (view_of g.now) }
 {
     numbers_fit(g) && lists_fit(g)
 }
@@ -57,8 +57,8 @@ fn is_sent_count(num_env: usize) -> bool
 
 // All flags of FixFix are the one that it sends.
 #[tactic(auto, using(crate::proofs::Writable::fixfix_view, crate::proofs::Writable::first_flag))]
-fn fix_fix_fits(g: SbrGrid) -> bool
-    ensures { result ≡ class_fits FrameClass.FixFix (view_of g) }
+fn fix_fix_fits(g: &SbrGrid) -> bool
+    ensures { result ≡ class_fits FrameClass.FixFix (view_of g.now) }
 {
     is_sent_count(g.num_env) && all_are(g.freq_res[0], g.resolutions())
 }
@@ -82,9 +82,9 @@ fn two_sides_fit(leading: usize, trailing: usize, num_env: usize) -> bool
 }
 
 // The counts are those that the class can send.
-fn class_fits(g: SbrGrid) -> bool
-    requires { (g.num_rel_0 ≤ 4) × (g.num_rel_1 ≤ 4) }
-    ensures { result ≡ class_fits g.frame_class (view_of g) }
+fn class_fits(g: &SbrGrid) -> bool
+    requires { (g.now.num_rel_0 ≤ 4) × (g.now.num_rel_1 ≤ 4) }
+    ensures { result ≡ class_fits g.now.frame_class (view_of g.now) }
 {
     match g.frame_class {
         FrameClass::FixFix => fix_fix_fits(g),
@@ -94,8 +94,16 @@ fn class_fits(g: SbrGrid) -> bool
     }
 }
 
+// Every test, of a record that is lent: one handed on by value would be copied.
+pub(crate) fn is_writable(g: &SbrGrid) -> bool
+    ensures { result ≡ writable (view_of g.now) }
+{
+    fields_fit(g) && class_fits(g)
+}
+
+// The same of one by value.
 pub fn writable(g: SbrGrid) -> bool
     ensures { result ≡ writable (view_of g) }
 {
-    fields_fit(g) && class_fits(g)
+    is_writable(&g)
 }

@@ -46,7 +46,7 @@ returns-in_err-flags c =
     let t1 = took (2 * a.head.num_rel_0) a.body c.take.result c.in_ok-leading.leading c.in_ok-leading.behind_leading c.take.ensures c.in_ok-leading.was in
     let t2 = took (2 * a.head.num_rel_1) c.in_ok-leading.behind_leading c.take-2.result c.in_ok-trailing.trailing c.in_ok-trailing.behind_trailing c.take-2.ensures c.in_ok-trailing.was in
     let t3 = took c.ptr_bits.result c.in_ok-trailing.behind_trailing c.take-3.result c.in_ok-pointer.pointer c.in_ok-pointer.behind_pointer c.take-3.ensures c.in_ok-pointer.was in
-    let e = stopped (a.head.num_rel_0 + a.head.num_rel_1 + 1) c.in_ok-pointer.behind_pointer c.take-4.result _ c.from_residual-in_err-flags.result c.take-4.ensures c.in_err-flags.was c.from_residual-in_err-flags.ensures.1 in
+    let e = stopped _ c.in_ok-pointer.behind_pointer c.take-4.result _ c.from_residual-in_err-flags.result c.take-4.ensures c.in_err-flags.was c.from_residual-in_err-flags.ensures.1 in
     rw (e.is, behind_short a.head.frame_class a.head.var_bord_0 a.head.var_bord_1 a.head.num_rel_0 a.head.num_rel_1 a.body.width a.body.value (omega (arith, e.few, t1.width, t2.width, t3.width, c.ptr_bits.ensures)))
 
 pub overflow_cast-result : goal.overflow_cast-result
@@ -62,7 +62,7 @@ returns c =
     let t1 = took (2 * a.head.num_rel_0) a.body c.take.result c.in_ok-leading.leading c.in_ok-leading.behind_leading c.take.ensures c.in_ok-leading.was in
     let t2 = took (2 * a.head.num_rel_1) c.in_ok-leading.behind_leading c.take-2.result c.in_ok-trailing.trailing c.in_ok-trailing.behind_trailing c.take-2.ensures c.in_ok-trailing.was in
     let t3 = took c.ptr_bits.result c.in_ok-trailing.behind_trailing c.take-3.result c.in_ok-pointer.pointer c.in_ok-pointer.behind_pointer c.take-3.ensures c.in_ok-pointer.was in
-    let t4 = took (a.head.num_rel_0 + a.head.num_rel_1 + 1) c.in_ok-pointer.behind_pointer c.take-4.result c.in_ok-flags.flags c.in_ok-flags.rest c.take-4.ensures c.in_ok-flags.was in
+    let t4 = took _ c.in_ok-pointer.behind_pointer c.take-4.result c.in_ok-flags.flags c.in_ok-flags.rest c.take-4.ensures c.in_ok-flags.was in
     let n = a.head.num_rel_0 + a.head.num_rel_1 + 1 in
     let v = a.body.value in
     let v2 : c.in_ok-trailing.behind_trailing.value ≡ v = t2.value ∙ t1.value in
@@ -75,5 +75,5 @@ returns c =
     let trail : twos_of a.head.num_rel_1 c.in_ok-trailing.trailing ≡ twos_of a.head.num_rel_1 (v / 2 ^ q1) = rw (t2.number, t1.value) (twos-mod a.head.num_rel_1 a.head.num_rel_1 (v / 2 ^ q1) (omega arith)) in
     let point : c.in_ok-pointer.pointer ≡ v / 2 ^ q2 % 2 ^ ptr_bits n = rw (t3.number, v2, c.ptr_bits.ensures) in
     let res : bits_of n c.in_ok-flags.flags ≡ bits_of n (v / 2 ^ m) = rw (t4.number, v3) (bits_of-mod n (v / 2 ^ m)) in
-    rw (c.requires.plain, c.noise_of.ensures, c.resolutions.ensures, c.lengths.ensures, c.lengths-2.ensures, lead, trail, point, res)
+    rw (c.noise_of.ensures, c.resolutions.ensures, c.lengths.ensures, c.lengths-2.ensures, lead, trail, point, res)
     (behind_given a.head.frame_class a.head.var_bord_0 a.head.var_bord_1 a.head.num_rel_0 a.head.num_rel_1 a.body.width q0 q1 q2 m v c.requires.counted t1.width t2.width (rw c.ptr_bits.ensures at t3.width) t4.width)

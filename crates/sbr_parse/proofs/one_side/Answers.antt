@@ -14,7 +14,7 @@ returns-in-FixVar c =
     let a = c.args.body in
     let t = took 4 c.args.body c.take.result c.in_ok-side.side c.in_ok-side.rest c.take.ensures c.in_ok-side.was in
     rw (c.in-FixVar.is, fixvar_reads a.width c.in_ok-side.rest.width a.value c.in_ok-side.side t.width t.number)
-    (rw (c.in-FixVar.is, c.empty.ensures, t.value) at c.behind_counts.ensures)
+    (rw (c.in-FixVar.is, t.value) at c.behind_counts.ensures)
 
 pub returns-in_default : goal.returns-in_default
 returns-in_default c =
@@ -22,4 +22,4 @@ returns-in_default c =
     let k = is_varfix c.args.class c.requires c.in_default.not-FixVar in
     let t = took 4 c.args.body c.take.result c.in_ok-side.side c.in_ok-side.rest c.take.ensures c.in_ok-side.was in
     rw (k, varfix_reads a.width c.in_ok-side.rest.width a.value c.in_ok-side.side t.width t.number)
-    (rw (k, c.empty-in_default.ensures, t.value) at c.behind_counts-in_default.ensures)
+    (rw (k, t.value) at c.behind_counts-in_default.ensures)
