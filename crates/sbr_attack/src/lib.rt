@@ -4,6 +4,7 @@
 ghost use Rattle.std.specs.Prelude.{◌≡◌, reverse, length, ◌+◌, ◌-◌, ◌≤◌, ◌<◌};
 ghost use Rattle.std.specs.Option.{option_map};
 ghost use Rattle.sbr_grid.specs.Grid.{record_of};
+ghost use Rattle.sbr_build.specs.Slots.{slot_list};
 ghost use Rattle.sbr_attack.specs.Attack.{even_segments, aligned_attack, late_attack_varvar, tail_of, double_attack_grid, fixvar_segs, varfix_segs, varfix_mark, fixvar_grid, varfix_grid, variable_grid};
 
 use sbr_build::{Frame, Slots};
@@ -21,7 +22,7 @@ pub struct Attack {
 #[tactic(auto, using(crate::proofs::Segments::only_eights, crate::proofs::Segments::eights_and_rest))]
 fn even_segments(span: u8) -> Slots<u8>
     requires { span ≤ 24 }
-    ensures { result ≡ even_segments span }
+    ensures { slot_list result ≡ even_segments span }
 {
     let mut segs = Slots::of(&[8; 3][..(span / 8) as usize]);
     if span % 8 != 0 {
@@ -99,7 +100,7 @@ pub fn double_attack_grid(first: Attack, s2: u8) -> Option<SbrGrid>
 #[tactic(auto, unfolding(crate::specs::Attack::fixvar_segs))]
 fn fixvar_segs(rest: u8) -> Slots<u8>
     requires { rest ≤ 16 }
-    ensures { (result ≡ reverse (fixvar_segs rest)) × (1 ≤ length result) × (length result ≤ 3) }
+    ensures { (slot_list result ≡ reverse (fixvar_segs rest)) × (1 ≤ length (slot_list result)) × (length (slot_list result) ≤ 3) }
 {
     if rest <= 2 {
         Slots::of(&[rest])
@@ -137,7 +138,7 @@ fn fixvar_grid(attack: Attack) -> SbrGrid
 #[tactic(auto, unfolding(crate::specs::Attack::varfix_segs))]
 fn varfix_segs(span: u8) -> Slots<u8>
     requires { span ≤ 16 }
-    ensures { (result ≡ varfix_segs span) × (1 ≤ length result) × (length result ≤ 2) }
+    ensures { (slot_list result ≡ varfix_segs span) × (1 ≤ length (slot_list result)) × (length (slot_list result) ≤ 2) }
 {
     if span <= 8 {
         Slots::of(&[span])

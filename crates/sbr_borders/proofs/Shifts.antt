@@ -51,6 +51,14 @@ places_more d ws is out more r i v h k e f g =
 pub near_more : (out more : List ℕ) (v : ℕ) → more ≡ out ++ (v ∷ []) → list_all (λ b. leb b 33) out ≡ true → v ≤ 33 → list_all (λ b. leb b 33) more ≡ true
 near_more out more v e f h = rw (e, list_all-append (λ b. leb b 33) out (v ∷ []), f, le-leb v 33 h) refl
 
+-- as many have one as are wanted, where no border is left
+pub none_left : (n i : ℕ) (bs ws rest : List WantedBorder) → ws ≡ first (onset_at 0) n bs → rest ≡ drop i ws → length rest ≡ 0 → i ≤ n → i ≡ n
+none_left n i bs ws rest e f g h = omega (arith, first_count n bs ws e, rw (length-drop i ws) at (ap length f), g)
+
+-- and where no shift is
+pub no_shift_left : (n i : ℕ) (is rest : List ℕ) → rest ≡ drop i is → length rest ≡ 0 → i ≤ n → n ≤ length is → i ≡ n
+no_shift_left n i is rest f g h k = omega (arith, rw (length-drop i is) at (ap length f), g)
+
 -- every border has its place
 pub places_all : (ws : List WantedBorder) (is out r : List ℕ) (i : ℕ) → length ws ≤ i → out ++ places (drop i ws) is ≡ r → out ≡ r
 unfolding places

@@ -7,6 +7,7 @@ ghost use Rattle.sbr_grid.specs.Grid.{first};
 ghost use Rattle.std.specs.List.{list_all};
 ghost use Rattle.sbr_borders.specs.Borders.{shift_count, place, price, prices, next_shifts, rises_from, last_or, steps_up, steps_down, even_ok, all_even, reaches, fit};
 ghost use Rattle.sbr_borders.specs.Frames.{InFrame};
+ghost use Rattle.sbr_build.specs.Slots.{slot_list};
 
 use sbr_build::Slots;
 use sbr_grid::SbrGrid;
@@ -19,8 +20,8 @@ pub struct WantedBorder {
 }
 
 // The wanted borders, the first `count` places.
-// An array and its count, and no `Slots`, whose view forgets the places behind the count: this is `Copy`, and the four places are set at once, for any
-// count. `borders` hands out the slice.
+// An array and its count, and no `Slots`, which is made from a slice or grows number by number: here the four places are set at once, for any count.
+// `borders` hands out the slice.
 #[derive(Clone, Copy)]
 pub struct Wanted {
     pub count: usize,
@@ -47,9 +48,9 @@ impl Wanted {
 
     // Where the shifts put the borders.
     pub fn borders_of(&self, shifts: &[u32; Wanted::MAX_WANTED]) -> Slots<u32>
-        ensures value { result ≡ places (wanted_list self.now) (first 0 self.now.count shifts.now) }
-        ensures count { length result ≡ self.now.count }
-        ensures near { list_all (λ b. leb b 33) result ≡ true }
+        ensures value { slot_list result ≡ places (wanted_list self.now) (first 0 self.now.count shifts.now) }
+        ensures count { length (slot_list result) ≡ self.now.count }
+        ensures near { list_all (λ b. leb b 33) (slot_list result) ≡ true }
     {
         let mut out = Slots::new();
         for (b, shift) in self.borders().iter().zip(shifts) {
@@ -156,17 +157,39 @@ fn even_ok(len: u32) -> bool
     2 <= len && len <= 8 && len % 2 == 0
 }
 
-// Every length can be written down.
-fn all_even(lengths: &[u32]) -> bool
-    ensures { result ≡ list_all (λ len. even_ok len) lengths.now }
+// Every length from the lead up through the borders can be written down. No list is made, and the first length that can't ends it: this is what the search
+// does most.
+fn leads_to(lead: u32, borders: &[u32]) -> bool
+    ensures { result ≡ all_even (steps_up lead borders.now) }
 {
-    lengths.iter().all(|len| even_ok(*len))
+    let mut last = lead;
+    for b in borders {
+        if !even_ok(b.saturating_sub(last)) {
+            return false;
+        }
+        last = *b;
+    }
+    true
+}
+
+// Every length from the end t down through the borders can be written down, the last one first.
+fn trails_to(t: u32, borders: &[u32]) -> bool
+    ensures { result ≡ all_even (steps_down t (reverse borders.now)) }
+{
+    let mut last = t;
+    for b in borders.iter().rev() {
+        if !even_ok(last.saturating_sub(*b)) {
+            return false;
+        }
+        last = *b;
+    }
+    true
 }
 
 // The first k borders are reached by leading lengths and the others by trailing ones.
-#[tactic(auto, using(crate::proofs::Walks::all_even_is), unfolding(crate::specs::Borders::reaches))]
+#[tactic(auto, unfolding(crate::specs::Borders::reaches))]
 fn reaches(lead: u32, t: u32, k: usize, borders: &Slots<u32>) -> bool
-    ensures { result ≡ reaches lead t k borders.now }
+    ensures { result ≡ reaches lead t k (slot_list borders.now) }
 {
     let borders = borders.as_slice();
     let max = SbrGrid::MAX_SIDE_REL;
@@ -174,13 +197,12 @@ fn reaches(lead: u32, t: u32, k: usize, borders: &Slots<u32>) -> bool
         return false;
     }
     let (leading, trailing) = borders.split_at(k);
-    all_even(leading_lengths(lead, leading).as_slice())
-        && all_even(trailing_lengths(t, trailing).as_slice())
+    leads_to(lead, leading) && trails_to(t, trailing)
 }
 
 // The least count of leading lengths with which every border is reached.
 pub fn fitting(lead: u32, t: u32, borders: &Slots<u32>) -> Option<usize>
-    ensures { result ≡ fit lead t borders.now }
+    ensures { result ≡ fit lead t (slot_list borders.now) }
 {
     (0..SbrGrid::MAX_SIDE_REL + 1).find(|k| reaches(lead, t, *k, borders))
 }
@@ -195,7 +217,7 @@ pub fn last_border(lead: u32, borders: &[u32]) -> u32
 // The lengths from the lead up through the borders.
 pub fn leading_lengths(lead: u32, borders: &[u32]) -> Slots<u32>
     requires { length borders.now ≤ 4 }
-    ensures { (result ≡ steps_up lead borders.now) × (length result ≡ length borders.now) }
+    ensures { (slot_list result ≡ steps_up lead borders.now) × (length (slot_list result) ≡ length borders.now) }
 {
     let mut out = Slots::new();
     let mut last = lead;
@@ -210,7 +232,7 @@ pub fn leading_lengths(lead: u32, borders: &[u32]) -> Slots<u32>
 // One function for both sides is no plainer: it takes an iterator of either end and a closure that turns the difference round.
 pub fn trailing_lengths(t: u32, borders: &[u32]) -> Slots<u32>
     requires { length borders.now ≤ 4 }
-    ensures { (result ≡ steps_down t (reverse borders.now)) × (length result ≡ length borders.now) }
+    ensures { (slot_list result ≡ steps_down t (reverse borders.now)) × (length (slot_list result) ≡ length borders.now) }
 {
     let mut out = Slots::new();
     let mut last = t;

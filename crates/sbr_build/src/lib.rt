@@ -1,13 +1,16 @@
 // Grids of even envelopes, and what all builders are made of: src/sbr_encoder.rs.
 #![tactic(auto)]
 
-ghost use Rattle.std.specs.Prelude.{◌≡◌, List, ℕ, [], ◌++◌, ◌∷◌, map, min, length, ◌+◌, ◌-◌, ◌≤◌, ◌<◌};
+mod slots;
+
+ghost use Rattle.std.specs.Prelude.{◌≡◌, map, length, ◌+◌, ◌-◌, ◌≤◌, ◌<◌};
 ghost use Rattle.sbr_grid.specs.Grid.{first, record_of};
 ghost use Rattle.sbr_build.specs.Frames.{FrameBounds};
+ghost use Rattle.sbr_build.specs.Slots.{slot_list};
 ghost use Rattle.sbr_build.specs.Build.{raw, grid_of, fixfix_grid, varvar_grid, even_share, shares, varfix_plain};
 
 use sbr_grid::{FrameClass, SbrGrid};
-use std::marker::Model;
+pub use slots::Slots;
 
 // The slot count of a frame, 15 or 16, and its first border, 0 to 3.
 #[derive(Clone, Copy)]
@@ -18,8 +21,8 @@ pub struct Frame {
 }
 
 // The onset slots of a frame, the first `count` places.
-// An array and its count, and no `Slots`, whose view forgets the places behind the count: this is `Copy`, and contracts give the whole value, zeros behind
-// the count too. `slots` hands out the slice.
+// An array and its count, and no `Slots`, of which contracts tell the list alone: here they give the whole value, zeros behind the count too. `slots` hands
+// out the slice.
 #[derive(Clone, Copy)]
 pub struct Onsets {
     pub count: usize,
@@ -38,93 +41,6 @@ impl Onsets {
         ensures { result.now ≡ onset_list self.now }
     {
         sbr_grid::front(&self.slot, self.count)
-    }
-}
-
-// At most four numbers of slots, as lengths or borders; contracts see their list. No library type: the sealed program stands on none.
-#[derive(Drop)]
-pub struct Slots<T> {
-    count: usize,
-    slots: [T; SbrGrid::MAX_REL_BORD],
-}
-
-impl<T> Model for Slots<T> {
-    ghost use Rattle.std.specs.Prelude.{List, take, ◌≤◌};
-
-    ghost Value = { List T };
-
-    ghost view = { λ l. take l.count l.slots };
-
-    ghost invariant = { λ l. l.count ≤ 4 };
-}
-
-impl<T: Copy + Default> Slots<T> {
-    // None yet.
-    pub fn new() -> Self
-        ensures { result ≡ [] }
-    {
-        Slots {
-            count: 0,
-            slots: [T::default(); SbrGrid::MAX_REL_BORD],
-        }
-    }
-
-    // The numbers handed in, in order.
-    #[tactic(auto, using(crate::proofs::SlotList::first_of))]
-    pub fn of(slots: &[T]) -> Self
-        requires { length slots.now ≤ 4 }
-        ensures { result ≡ slots.now }
-    {
-        Slots {
-            count: slots.len(),
-            slots: sbr_grid::padded(slots, T::default()),
-        }
-    }
-
-    // One more behind the others.
-    #[tactic(auto, using(crate::proofs::SlotList::first_with))]
-    pub fn push(&mut self, more: T)
-        requires { length self.old < 4 }
-        ensures { self.new ≡ self.old ++ (more ∷ []) }
-    {
-        self.slots[self.count] = more;
-        self.count += 1;
-    }
-
-    // The numbers, in order.
-    #[tactic(auto, using(crate::proofs::SlotList::first_few))]
-    pub fn as_slice(&self) -> &[T]
-        ensures { (result.now ≡ self.now) × (length result.now ≤ 4) }
-    {
-        &self.slots[..self.count]
-    }
-}
-
-// A number as a byte; above 255 it is 255.
-fn byte_of(n: u32) -> u8
-    ensures { result ≡ min n 255 }
-{
-    n.min(255) as u8
-}
-
-// The first four numbers as bytes; places past them are zero.
-fn four_bytes(numbers: &[u32]) -> [u8; SbrGrid::MAX_REL_BORD]
-    ensures { result ≡ first 0 4 (map (λ n. min n 255) numbers.now) }
-{
-    sbr_grid::padded::<u32, { SbrGrid::MAX_REL_BORD }>(numbers, 0).map(byte_of)
-}
-
-impl Slots<u32> {
-    // The numbers as bytes; one above 255 is 255.
-    #[tactic(auto, using(crate::proofs::SlotList::first_map))]
-    pub fn bytes(&self) -> Slots<u8>
-        ensures { result ≡ map (λ n. min n 255) self.now }
-    {
-        let numbers = self.as_slice();
-        Slots {
-            count: numbers.len(),
-            slots: four_bytes(numbers),
-        }
     }
 }
 
@@ -211,7 +127,7 @@ fn share(left: u8, remaining: u8) -> u8
 // The lengths that num_env envelopes write down of `span` slots.
 fn shared(num_env: usize, span: u8) -> Slots<u8>
     requires { num_env ≤ 5 }
-    ensures { (result ≡ shares num_env span) × (length result ≤ num_env - 1) }
+    ensures { (slot_list result ≡ shares num_env span) × (length (slot_list result) ≤ num_env - 1) }
 {
     let mut rel = Slots::new();
     let mut left = span;

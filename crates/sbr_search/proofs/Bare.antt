@@ -100,13 +100,13 @@ isolated_framed {n} {lead} o bs c h e =
 -- ---- the choice between the two searches
 
 -- no plain plan wins over one that costs no more than the isolating border is worth
-plain_loses : (i p : Option Best) → beats 2 i ≡ false → plain_wins i p ≡ false
+pub plain_loses : (i p : Option Best) → beats 2 i ≡ false → plain_wins i p ≡ false
 plain_loses None p e = let z : ◌≡◌ {A = ℕ} 0 1 = cc in absurd (omega arith)
 plain_loses (Some i) None e = refl
 plain_loses (Some i) (Some p) e = le-ltb (p.total + 2) i.total (omega (arith, ltb-false 2 i.total e))
 
 -- the grid of the search that wins
-multi_by : (n lead k : ℕ) (xs : List ℕ) (i p : Option Best) (b : Bool) → 1 ≤ k → i ≡ search n lead (isolated (first 0 k xs))
+pub multi_by : (n lead k : ℕ) (xs : List ℕ) (i p : Option Best) (b : Bool) → 1 ≤ k → i ≡ search n lead (isolated (first 0 k xs))
     → p ≡ search n lead (bare (first 0 k xs)) → plain_wins i p ≡ b
     → cond b (planned n lead (bare (first 0 k xs)) p) (planned n lead (isolated (first 0 k xs)) i) ≡ multi_onset_grid (first 0 k xs) lead n
 unfolding multi_onset_grid

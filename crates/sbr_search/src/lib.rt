@@ -8,13 +8,14 @@ ghost use Rattle.std.specs.Prelude.{◌≡◌, ℕ, map, length, ◌+◌, ◌≤
 ghost use Rattle.std.specs.Option.{option_map};
 ghost use Rattle.sbr_grid.specs.Grid.{first, record_of};
 ghost use Rattle.sbr_build.specs.Cases.{onset_list};
+ghost use Rattle.sbr_build.specs.Slots.{slot_list};
 ghost use Rattle.sbr_borders.specs.Borders.{onset_at};
 ghost use Rattle.sbr_borders.specs.Wanted.{wanted_list};
 ghost use Rattle.sbr_search.specs.Search.{beats, try_ends, try_shifts, search, bare, isolated, plan_grid, planned, plain_wins, multi_onset_grid};
 ghost use Rattle.sbr_search.specs.Cheapest.{best_of};
 
 pub use attacks::Attacks;
-use cheapest::Cheapest;
+pub use cheapest::Cheapest;
 use sbr_borders::{Wanted, WantedBorder};
 use sbr_build::{Frame, Slots};
 use sbr_grid::SbrGrid;
@@ -42,7 +43,7 @@ fn try_end(
     best: Option<Cheapest>,
 ) -> Option<Cheapest>
     requires { (over ≤ 3) × (cost ≤ 8) }
-    ensures { (k : ℕ) → option_map (best_of k) result ≡ try_ends 1 over frame.nts frame.lead (first 0 k shifts.now) borders.now cost (option_map (best_of k) best) }
+    ensures { (k : ℕ) → option_map (best_of k) result ≡ try_ends 1 over frame.nts frame.lead (first 0 k shifts.now) (slot_list borders.now) cost (option_map (best_of k) best) }
 {
     let lead = u32::from(frame.lead);
     let t = u32::from(frame.nts + over);

@@ -1,18 +1,16 @@
-use Rattle.std.proofs.Common.{arith}
-use Rattle.sbr_borders.proofs.Walks.{rises_more, rises_not, rises_all}
+use Rattle.std.proofs.Common.{refl, sym, arith}
+use borrow.Author.Tests.{lt-ltb, le-ltb}
+use Rattle.sbr_borders.proofs.Walks.{walk-next, walk-stop, walk_end, rises_walk}
 use Rattle.sbr_borders.proofs.rises_from.Goals as goal
 
+pub loop-b-init : goal.loop-b-init
+loop-b-init c = record { size = refl; rest = sym (rises_walk _ _) }
+
 pub returns-then-b-last : goal.returns-then-b-last
-returns-then-b-last c =
-    let s = c.loop-b in
-    rises_not s.last _ _ s.b-index c.loop-b-test.true c.if-b-last.true s.invariant
+returns-then-b-last c = walk-stop c.loop-b.invariant _ c.loop-b-test.true refl (le-ltb _ _ c.if-b-last.true)
 
 pub loop-b-preserved : goal.loop-b-preserved
-loop-b-preserved c =
-    let s = c.loop-b in
-    rises_more s.last _ _ s.b-index c.loop-b-test.true c.if-b-last.false s.invariant
+loop-b-preserved c = walk-next c.loop-b.invariant _ c.loop-b-test.true refl (lt-ltb _ _ c.if-b-last.false)
 
 pub returns : goal.returns
-returns c =
-    let s = c.loop-b in
-    rises_all s.last _ _ s.b-index (omega arith) s.invariant
+returns c = walk_end c.loop-b.invariant (omega arith)
