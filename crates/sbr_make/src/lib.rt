@@ -3,7 +3,7 @@
 
 ghost use Rattle.std.specs.Prelude.{◌≡◌, true, leb, pos, length, ◌≤◌};
 ghost use Rattle.std.specs.Result.{result_map_both};
-ghost use Rattle.sbr_grid.specs.Refusals.{unless};
+ghost use Rattle.sbr_grid.specs.Refusals.{result_map, value_or, unless};
 ghost use Rattle.sbr_grid.specs.declared.Refusal.TheVariants.{Room};
 ghost use Rattle.sbr_grid.specs.Grid.{view_of};
 ghost use Rattle.sbr_writer.specs.Write.{writable};
@@ -65,6 +65,7 @@ impl Model for Frames {
     ghost invariant = { HasRoom };
 }
 
+// Each method but `new` adds to the frames so far; where it refuses, they stay as they were.
 impl Frames {
     // Before the first line.
     #[tactic(auto, using(crate::proofs::Rooms::none_room))]
@@ -81,9 +82,10 @@ impl Frames {
         }
     }
 
-    // With a line that says the slot count.
-    fn set_slots(mut self, num_time_slots: usize) -> Result<Self, Refusal>
-        ensures { result ≡ set_slots self num_time_slots }
+    // A line says the slot count.
+    fn set_slots(&mut self, num_time_slots: usize) -> Result<(), Refusal>
+        ensures answer { result ≡ result_map (λ m. tt) (set_slots self.old num_time_slots) }
+        ensures frames { self.new ≡ value_or (λ m. m) self.old (set_slots self.old num_time_slots) }
     {
         if self.count != 0 {
             return Err(Refusal::Record);
@@ -92,15 +94,16 @@ impl Frames {
             return Err(Refusal::SlotCount);
         }
         self.num_time_slots = num_time_slots;
-        Ok(self)
+        Ok(())
     }
 
-    // With a frame that has that first and that last border, whose record is written behind the others.
-    fn add_frame(mut self, first: u32, last: u32, grid: SbrGrid) -> Result<Self, Refusal>
+    // A frame is added that has that first and that last border; its record is written behind the others.
+    fn add_frame(&mut self, first: u32, last: u32, grid: SbrGrid) -> Result<(), Refusal>
         requires fits { writable (view_of grid) ≡ true }
         requires low { first ≤ 19 }
         requires near { last ≤ 19 }
-        ensures { result ≡ add_frame self (pos first) (pos last) (view_of grid) }
+        ensures answer { result ≡ result_map (λ m. tt) (add_frame self.old (pos first) (pos last) (view_of grid)) }
+        ensures frames { self.new ≡ value_or (λ m. m) self.old (add_frame self.old (pos first) (pos last) (view_of grid)) }
     {
         if self.count != 0 && first != self.next {
             return Err(Refusal::Chain);
@@ -116,12 +119,13 @@ impl Frames {
         }
         self.count += 1;
         self.next = last.saturating_sub(self.num_time_slots as u32);
-        Ok(self)
+        Ok(())
     }
 
-    // With a line that names a frame.
-    fn name_frame(self, borders: &[i32], flags: &[bool], mark: i32) -> Result<Self, Refusal>
-        ensures { result ≡ name_frame self borders.now flags.now mark }
+    // A line names a frame.
+    fn name_frame(&mut self, borders: &[i32], flags: &[bool], mark: i32) -> Result<(), Refusal>
+        ensures answer { result ≡ result_map (λ m. tt) (name_frame self.old borders.now flags.now mark) }
+        ensures frames { self.new ≡ value_or (λ m. m) self.old (name_frame self.old borders.now flags.now mark) }
     {
         let grid = sbr_named::grid_for_borders(self.num_time_slots, borders, flags, mark)?;
         let first = borders[0].unsigned_abs();
@@ -129,16 +133,17 @@ impl Frames {
         self.add_frame(first, last, grid)
     }
 
-    // With a line that ends at that place of the text. One that ends past the longest text may have been cut.
-    fn add_line(self, line: &[u8], end: usize) -> Result<Self, Refusal>
-        ensures { result ≡ unless (leb end most_text) Room (add_line self (read_line line.now)) }
+    // A line ends at that place of the text. One that ends past the longest text may have been cut.
+    fn add_line(&mut self, line: &[u8], end: usize) -> Result<(), Refusal>
+        ensures answer { result ≡ result_map (λ m. tt) (unless (leb end most_text) Room (add_line self.old (read_line line.now))) }
+        ensures frames { self.new ≡ value_or (λ m. m) self.old (unless (leb end most_text) Room (add_line self.old (read_line line.now))) }
     {
         if MAX_TEXT < end {
             return Err(Refusal::Room);
         }
         let read = sbr_text::read_line(line);
         match read.kind {
-            Kind::Blank => Ok(self),
+            Kind::Blank => Ok(()),
             Kind::Slots(n) => self.set_slots(n),
             Kind::Frame => {
                 self.name_frame(read.borders.as_slice(), read.flags.as_slice(), read.mark)
@@ -156,8 +161,8 @@ fn add_lines(text: &[u8]) -> Result<Frames, LineRefused>
     let mut frames = Frames::new();
     let mut at = 0usize;
     for (i, line) in taken.split(|b| *b == b'\n').enumerate() {
-        let end = at.saturating_add(line.len());
-        frames = frames
+        let end = at + line.len();
+        frames
             .add_line(line, end)
             .map_err(|why| LineRefused { line: i + 1, why })?;
         at = end + 1;

@@ -3,7 +3,7 @@ ghost use Rattle.std.specs.Prelude.{◌≤◌};
 
 use std::alloc::AllocError;
 
-// At most N items, in order: the first places of an array, and their count. Not sbr_build's `Slots`, whose Model can't be `Copy`; the sealed library's
+// At most N items, in order: the first places of an array, and their count. Not sbr_build's `Slots`, which holds four and asks for room; the sealed library's
 // `Onsets` and `Wanted` say for themselves why they are no such list.
 pub struct Items<T, const N: usize> {
     count: usize,

@@ -52,7 +52,8 @@ pub fn read_line(line: &[u8]) -> TextLine
 {
     let mut parts = Parts::new();
     for byte in line {
-        parts = parts.byte(*byte);
+        parts.byte(*byte);
     }
-    parts.close().text_line()
+    parts.close();
+    parts.text_line()
 }

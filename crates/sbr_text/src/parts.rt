@@ -47,30 +47,27 @@ impl Number {
     // Numbers from this one on are this one.
     const MAX: u16 = 1000;
 
-    // With a digit behind the others.
-    fn grown(self, digit: u8) -> Self
-        ensures { result ≡ grown self digit }
+    // A digit behind the others.
+    fn grow(&mut self, digit: u8)
+        ensures { self.new ≡ grown self.old digit }
     {
         let value = self
             .value
             .saturating_mul(10)
             .saturating_add(u16::from(digit));
-        Number {
-            digits: true,
-            value: value.min(Number::MAX),
-            ..self
-        }
+        self.digits = true;
+        self.value = value.min(Number::MAX);
     }
 
     // Whether it is being read.
-    fn is_open(self) -> bool
-        ensures { result ≡ is_open self }
+    fn is_open(&self) -> bool
+        ensures { result ≡ is_open self.now }
     {
         self.minus || self.digits
     }
 
-    fn signed(self) -> i32
-        ensures { result ≡ signed_of self }
+    fn signed(&self) -> i32
+        ensures { result ≡ signed_of self.now }
     {
         let value = i32::from(self.value);
         if self.minus { -value } else { value }
@@ -111,21 +108,19 @@ impl Parts {
     }
 
     // A digit behind what stands there.
-    fn digit(mut self, digit: u8) -> Self
-        ensures { parts_of result ≡ with_digit (parts_of self) digit }
+    fn digit(&mut self, digit: u8)
+        ensures { parts_of self.new ≡ with_digit (parts_of self.old) digit }
     {
         self.good = self.good && self.part.takes_numbers();
-        self.number = self.number.grown(digit);
-        self
+        self.number.grow(digit);
     }
 
     // A minus sign behind what stands there.
-    fn minus_sign(mut self) -> Self
-        ensures { parts_of result ≡ with_minus (parts_of self) }
+    fn minus_sign(&mut self)
+        ensures { parts_of self.new ≡ with_minus (parts_of self.old) }
     {
         self.good = self.good && self.part.takes_numbers() && !self.number.is_open();
         self.number.minus = true;
-        self
     }
 
     // Whether a letter of a class may stand here: before the first stands the frame's number, before the others none.
@@ -138,27 +133,25 @@ impl Parts {
     }
 
     // A letter of a class behind what stands there.
-    fn class_letter(mut self) -> Self
-        ensures { parts_of result ≡ with_letter (parts_of self) }
+    fn class_letter(&mut self)
+        ensures { parts_of self.new ≡ with_letter (parts_of self.old) }
     {
         self.good = self.good && self.may_name();
         self.class = true;
         self.borders.clear();
-        self
     }
 
     // A resolution behind what stands there.
-    fn flag(mut self, high: bool) -> Self
-        ensures { parts_of result ≡ with_flag (parts_of self) high }
+    fn flag(&mut self, high: bool)
+        ensures { parts_of self.new ≡ with_flag (parts_of self.old) high }
     {
         self.good = self.good && self.part == Part::Flags;
         self.flags.push(high);
-        self
     }
 
     // A number at its place.
-    fn number(mut self, z: i32) -> Self
-        ensures { parts_of result ≡ with_number (parts_of self) z }
+    fn number(&mut self, z: i32)
+        ensures { parts_of self.new ≡ with_number (parts_of self.old) z }
     {
         self.number = Number::default();
         match self.part {
@@ -169,49 +162,47 @@ impl Parts {
             }
             Part::Noise | Part::Flags => {}
         }
-        self
     }
 
     // The end of a number, where one is being read; a minus sign alone is none.
-    pub fn close(mut self) -> Self
-        ensures { parts_of result ≡ closed (parts_of self) }
+    pub fn close(&mut self)
+        ensures { parts_of self.new ≡ closed (parts_of self.old) }
     {
-        let number = self.number;
-        if number.digits {
-            return self.number(number.signed());
+        if self.number.digits {
+            let z = self.number.signed();
+            self.number(z);
+        } else {
+            self.good = self.good && !self.number.minus;
+            self.number = Number::default();
         }
-        self.good = self.good && !number.minus;
-        self.number = Number::default();
-        self
     }
 
     // A stroke behind what stands there: none follows the resolutions, and one mark stands before the last.
-    fn stroke(mut self) -> Self
-        ensures { parts_of result ≡ stroked (parts_of self) }
+    fn stroke(&mut self)
+        ensures { parts_of self.new ≡ stroked (parts_of self.old) }
     {
         let marked = self.part != Part::Mark || self.marks == 1;
         self.good = self.good && self.part.takes_numbers() && marked;
         self.part = self.part.next(self.class);
-        self
     }
 
     // A byte behind what stands there.
     #[tactic(auto, unfolding(crate::specs::Parts::read_byte))]
-    pub fn byte(self, b: u8) -> Self
-        ensures { parts_of result ≡ read_byte (parts_of self) b }
+    pub fn byte(&mut self, b: u8)
+        ensures { parts_of self.new ≡ read_byte (parts_of self.old) b }
     {
         match b {
             b'0'..=b'9' => self.digit(b - b'0'),
             b' ' | b'\t' | b'\r' => self.close(),
-            b'/' => self.close().stroke(),
+            b'/' => {
+                self.close();
+                self.stroke();
+            }
             b'-' => self.minus_sign(),
             b'H' => self.flag(true),
             b'L' => self.flag(false),
             b'F' | b'i' | b'x' | b'V' | b'a' | b'r' => self.class_letter(),
-            _ => Parts {
-                good: false,
-                ..self
-            },
+            _ => self.good = false,
         }
     }
 
@@ -233,11 +224,11 @@ impl Parts {
     }
 
     // What the line says.
-    pub fn text_line(self) -> TextLine
-        ensures kind { result.kind ≡ kind_of (parts_of self) }
-        ensures borders { item_list result.borders ≡ (parts_of self).borders }
-        ensures mark { result.mark ≡ (parts_of self).mark }
-        ensures flags { item_list result.flags ≡ (parts_of self).flags }
+    pub fn text_line(&self) -> TextLine
+        ensures kind { result.kind ≡ kind_of (parts_of self.now) }
+        ensures borders { item_list result.borders ≡ (parts_of self.now).borders }
+        ensures mark { result.mark ≡ (parts_of self.now).mark }
+        ensures flags { item_list result.flags ≡ (parts_of self.now).flags }
     {
         TextLine {
             kind: self.kind(),
