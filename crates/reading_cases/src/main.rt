@@ -8,20 +8,20 @@ use sbr_run::Place;
 fn print_reading(rt: &(impl Input + Print), bytes: &[u8], from: Place) -> Place {
     let num_time_slots = case_io::next_size(rt);
     let lent = case_io::next_count(rt, bytes.len());
-    let place = match sbr_run::receive_frame(&bytes[..lent], num_time_slots, from) {
+    let answer = sbr_run::receive_frame(&bytes[..lent], num_time_slots, from);
+    let place = from.after_reading(&answer);
+    match answer {
         Ok(read) => {
             let frame = Frame::from(read);
             let _ = print!(rt; "read ");
             frame.print(rt);
             frame.print_begins(rt);
-            Place::from(read)
         }
         Err(why) => {
             let _ = print!(rt; "reading ");
             case_io::print_refusal(rt, why);
-            from
         }
-    };
+    }
     run_lines::print_place(rt, place);
     let _ = println!(rt);
     place

@@ -66,9 +66,17 @@ impl Run<'_> {
         let mut x = [0.0; case_io::MAX_SAMPLES];
         let samples = case_io::read_samples(rt, &mut x);
         let start = self.sender;
-        match sbr_run::send_frame(samples, self.tables, variable, num_time_slots, bytes, start) {
+        let answer = sbr_run::send_frame(
+            samples,
+            self.tables,
+            variable,
+            num_time_slots,
+            bytes,
+            start,
+        );
+        self.sender = start.after_turn(&answer);
+        match answer {
             Ok(sending) => {
-                self.sender = sending.place;
                 let frame = Frame {
                     grid: sending.grid,
                     time: sending.time,
@@ -77,7 +85,7 @@ impl Run<'_> {
                 let _ = print!(rt; "sent ");
                 self.print_frame(rt, &frame, &x, num_time_slots);
                 let _ = print!(rt; " transient {}", u8::from(sending.transient));
-                run_lines::print_place(rt, sending.place);
+                run_lines::print_place(rt, self.sender);
                 let _ = self.sent.try_push(frame.number());
             }
             Err(why) => {
@@ -105,9 +113,10 @@ impl Run<'_> {
     // Makes a reading and prints it, and whether it gives the frame that was sent.
     fn reading(&mut self, rt: &(impl Input + Print), bytes: &[u8]) {
         let num_time_slots = case_io::next_size(rt);
-        match sbr_run::receive_frame(bytes, num_time_slots, self.receiver) {
+        let answer = sbr_run::receive_frame(bytes, num_time_slots, self.receiver);
+        self.receiver = self.receiver.after_reading(&answer);
+        match answer {
             Ok(read) => {
-                self.receiver = Place::from(read);
                 let frame = Frame::from(read);
                 let silence = [0.0; case_io::MAX_SAMPLES];
                 let _ = print!(rt; "read ");

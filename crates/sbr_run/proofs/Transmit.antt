@@ -6,6 +6,7 @@ use mathlib.Core.List.{List, [], ◌∷◌, map}
 use Prim.Native.Nat.{ℕ, ◌+◌, ◌*◌, ◌^◌, ◌≤◌, ◌<◌}
 use native.Mathlib.Nat.{add-zero}
 use native.Mathlib.Omega.{arith}
+use lib.IntN.{ℤ}
 use lib.ListN.{length, replicate, length-append}
 use Rattle.bits.specs.Bits.{put_bits}
 use Rattle.bits.specs.Room.{end_of, bits_from, Holds}
@@ -17,6 +18,7 @@ use Rattle.sbr_grid.specs.Refusals.{Outcome}
 use Rattle.sbr_writer.specs.Syntax.{grid_bits}
 use Rattle.sbr_writer.proofs.Puts.{puts, some_bits}
 use Rattle.sbr_reader.specs.Read.{marks_end}
+use Rattle.sbr_encoder.specs.Election.{Elected}
 use Rattle.sbr_run.specs.Run.{Turn, Sent, Turned, turn, Terms, Choosing, State, last_border, moved, after, counted, sent, OwnTurn, Turns, Run, Frame, frames_from, stream, Chain}
 use Rattle.sbr_run.specs.Term3.{Transmitted, SoundChoice}
 use Rattle.sbr_run.proofs.OneFrame.{calls, Good, InReach, good_frame}
@@ -152,3 +154,18 @@ written r s ts clear w =
       put = λ h. rw w.bytes (put_leaves s.bytes s.position str (stream_bits (sent ts) h) (w.fits h).0);
       nothing_sent = λ e. left_nothing r.slots s (after s ts) (sent ts) e w;
     }
+
+-- ---- two calls
+
+-- where one choosing call comes to nothing that another may not come to, its runs are runs by the other
+module _ (By By' : Choosing) (within : (r : Terms) (previous : ℤ) (o : Outcome Elected) → By r previous o → By' r previous o) where
+  own-within : (r : Terms) (s : State) (t : Turn) (o : Outcome Turned) → OwnTurn By r s t o → OwnTurn By' r s t o
+  own-within r s t (Err e) h = tt
+  own-within r s t (Ok a) h = record { chosen = within r _ _ h.chosen; time_slots = h.time_slots; bytes = h.bytes; position = h.position }
+
+  turns-within : (r : Terms) (s : State) (ts : List Turn) → Turns By r s ts → Turns By' r s ts
+  turns-within r s [] h = tt
+  turns-within r s (t ∷ ts) h = (own-within r s t (turn t) h.0, turns-within r (moved s (turn t)) ts h.1)
+
+  pub run-within : (r : Terms) (s : State) (ts : List Turn) → Run By r s ts → Run By' r s ts
+  run-within r s ts u = record { from = u.from; by = u.by; clear = u.clear; turns = turns-within r s ts u.turns }

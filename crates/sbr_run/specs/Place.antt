@@ -44,7 +44,8 @@ reading_from n bytes p = record { bytes = bytes; position = p.position; slots = 
 abbrev pub behind : FrameRead → Place
 behind r = record { carried = r.carried; position = r.position }
 
--- the place that a host hands in next: that of what was handed out, or the same again where the call is refused
+-- the place that a host hands in next: that of what was handed out, or the same again where the call is refused; `Place::after_turn` of a turn,
+-- `Place::after_reading` of a reading
 abbrev pub place_next : {A : Type 0} → (A → Place) → Place → Outcome A → Place
 place_next f p o = value_or f p o
 

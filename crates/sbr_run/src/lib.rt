@@ -6,7 +6,7 @@ ghost use Rattle.sbr_grid.specs.Refusals.{result_map};
 ghost use Rattle.sbr_reader.specs.Read.{frame_read};
 ghost use Rattle.sbr_run.specs.Run.{turn};
 ghost use Rattle.sbr_run.specs.Readings.{reading};
-ghost use Rattle.sbr_run.specs.Place.{turn_from, sending, bytes_left, behind, reading_from};
+ghost use Rattle.sbr_run.specs.Place.{turn_from, sending, bytes_left, behind, place_next, reading_from};
 
 use sbr_bands::BandTables;
 use sbr_grid::{Refusal, SbrGrid, TimeGrid};
@@ -42,8 +42,30 @@ impl From<FrameRead> for Place {
     }
 }
 
+impl Place {
+    // Where a transmitter hands its next turn in: the place of the frame that was sent, or this one again where the turn is refused.
+    pub fn after_turn(self, answer: &Result<Sending, Refusal>) -> Place
+        ensures { result ≡ place_next (λ a. a.place) self answer.now }
+    {
+        match answer {
+            Ok(sending) => sending.place,
+            Err(_) => self,
+        }
+    }
+
+    // Where a receiver reads next: behind the frame that was read, or at this place again where the reading is refused.
+    pub fn after_reading(self, answer: &Result<FrameRead, Refusal>) -> Place
+        ensures { result ≡ place_next behind self answer.now }
+    {
+        match answer {
+            Ok(read) => Place::from(*read),
+            Err(_) => self,
+        }
+    }
+}
+
 // A transmitter's turn: election from the carried border, time grid of the record, its writing at the position, which clears the rest of the byte in
-// which it ends. The call that refuses is the last, and nothing moves then: the place handed in stays the next one's.
+// which it ends. The call that refuses is the last, and nothing moves then: the place handed in stays the next one's (`Place::after_turn`).
 pub fn send_frame(
     x: &[f64],
     tables: BandTables,
@@ -76,7 +98,7 @@ pub fn send_frame(
     })
 }
 
-// A receiver's reading of the next frame; a refusal moves nothing: the place handed in stays the next one's.
+// A receiver's reading of the next frame; a refusal moves nothing: the place handed in stays the next one's (`Place::after_reading`).
 pub fn receive_frame(
     bytes: &[u8],
     num_time_slots: usize,
