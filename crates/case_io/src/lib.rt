@@ -96,12 +96,13 @@ fn double(bits: u64) -> f64
     }
 }
 
-// Fills the start of a table, and answers the entries that it has.
+// Fills the start of a table, and answers the entries that it has; those past the end of the input are 0.
 pub fn read_table<'a>(rt: &impl Input, table: &'a mut [u8]) -> &'a [u8]
     requires { 255 ≤ length table.old }
     ensures { length result.now ≤ 255 }
 {
     let count = usize::from(next_byte(rt));
+    table[..count].fill(0);
     read_full(rt, &mut table[..count]);
     &table[..count]
 }

@@ -42,7 +42,7 @@ climbs_gap xs i j e h l =
 -- ---- entries of a table
 
 -- an entry has its place
-among_some : (xs : List ℕ) (b : ℕ) → list_any (λ x. eqb x b) xs ≡ true → (i : ℕ) × ((i < length xs) × (entry xs i ≡ b))
+pub among_some : (xs : List ℕ) (b : ℕ) → list_any (λ x. eqb x b) xs ≡ true → (i : ℕ) × ((i < length xs) × (entry xs i ≡ b))
 among_some [] b h = absurd (false≢true h)
 among_some (x ∷ xs) b h = elim (ℕ_discrete x b) [
   | yes e ↦ (0, (omega arith, e))
@@ -78,7 +78,7 @@ drawn_by high [] marked e = refl
 drawn_by high (b ∷ bs) marked e = rw (e b, drawn_by high bs marked e)
 
 -- each entry of low is one of high
-drawn_at : (high low : List ℕ) (j : ℕ) → drawn high low ≡ true → j < length low → (i : ℕ) × ((i < length high) × (entry high i ≡ entry low j))
+pub drawn_at : (high low : List ℕ) (j : ℕ) → drawn high low ≡ true → j < length low → (i : ℕ) × ((i < length high) × (entry high i ≡ entry low j))
 unfolding drawn among
 drawn_at high [] j e h = absurd (omega arith)
 drawn_at high (b ∷ bs) zero e h = among_some high b ((and-eq-true_iff _ _).0 e).0

@@ -59,7 +59,7 @@ refused true false c d e f g o k h = cc
 refused false b c d e f g o k h = cc
 
 -- where all are passed what follows stands
-passed : {A B : Type 0} (a b c : Bool) (d e f : Refusal) (o : Outcome A) (k m : B) → unless a d (unless b e (unless c f (Ok k))) ≡ Ok m
+pub passed : {A B : Type 0} (a b c : Bool) (d e f : Refusal) (o : Outcome A) (k m : B) → unless a d (unless b e (unless c f (Ok k))) ≡ Ok m
     → (unless a d (unless b e (unless c f o)) ≡ o) × (m ≡ k)
 passed true true true d e f o k m h = (refl, cc)
 passed true true false d e f o k m h = cc

@@ -36,7 +36,7 @@ pub fits_wide : (z : ℤ) → SFits w32 z → SFits w64 z
 fits_wide z f = record { sfits = omega (arith, f.sfits) }
 
 -- it is itself there
-wide_is : (z : ℤ) → SFits w32 z → to_z w64 (of_z w64 (to_z w32 (of_z w32 z))) ≡ z
+pub wide_is : (z : ℤ) → SFits w32 z → to_z w64 (of_z w64 (to_z w32 (of_z w32 z))) ≡ z
 wide_is z f = rw (to_z-of_z w32 z f) (to_z-of_z w64 z (fits_wide z f))
 
 -- less a slot count it fits
