@@ -15,11 +15,11 @@ use Rattle.std.specs.Result.{MatchResult, result_map_both}
 use mathlib.Core.Path.{◌≡◌, refl, sym, ap, ◌∙◌}
 use mathlib.Core.Bool.{Bool, false}
 use mathlib.Core.List.{List, ◌∷◌}
-use Prim.Native.Nat.{ℕ, suc, ◌+◌, ◌≤◌, ◌<◌, min}
+use Prim.Native.Nat.{ℕ, suc, ◌+◌, ◌-◌, ◌≤◌, ◌<◌, ◌^◌, min}
 use native.Mathlib.Numerals.{add-one}
 use native.Mathlib.Decide.{dec_lt}
 use native.Mathlib.Omega.{arith}
-use borrow.Author.Tests.{leb-true}
+use borrow.Author.Tests.{le-leb, lt-leb, leb-true}
 use lib.Dec.{leb, eqb}
 use lib.ListN.{length, get_or, take, drop, drop_of_length-le}
 use lib.Seq.{drop-cons, take_all}
@@ -72,18 +72,25 @@ module _ {F : Type 0} (e : Enumerate (Split ℕ F)) (g : Mut F (Bor ℕ × Unit 
 abbrev pub added_at : Making → List ℕ → ℕ → Outcome Making
 added_at m l end = unless (leb end most_text) Room (add_line m (read_line l))
 
+-- a place past the longest text may be any such place
+same_end : (end x : ℕ) → end ≡ min x (2 ^ 64 - 1) → leb end most_text ≡ leb x most_text
+same_end end x e = elim (dec_lt most_text x) [
+  | yes h ↦ lt-leb end most_text (omega arith) ∙ sym (lt-leb x most_text h)
+  | no h ↦ le-leb end most_text (omega arith) ∙ sym (le-leb x most_text (omega arith))
+]
+
 -- the first of several lines
 first_made : (i at : ℕ) (m : Making) (l : List ℕ) (ls : List (List ℕ))
     → made_from i at m (l ∷ ls) ≡ or_stopped (suc i) (λ a. made_from (suc i) (at + length l + 1) a ls) (added_at m l (at + length l))
 unfolding made_from
 first_made i at m l ls = refl
 
--- whether a line was added, a refusal with the number of the line
-abbrev pub at_line : ℕ → Outcome (Unit {0}) → Result (Unit {0}) LineRefused
-at_line n o = result_map_both (λ u. u) (refused_at n) o
+-- an outcome, where it is a refusal with the number of its line
+abbrev pub at_line : {A : Type 0} → ℕ → Outcome A → Result A LineRefused
+at_line n o = result_map_both (λ x. x) (refused_at n) o
 
 -- what the program makes of it
-pub numbered : (o : Outcome (Unit {0})) (r : Result (Unit {0}) LineRefused) (n : ℕ) {P : Refusal → LineRefused → Type 0}
+pub numbered : {A : Type 0} (o : Outcome A) (r : Result A LineRefused) (n : ℕ) {P : Refusal → LineRefused → Type 0}
     → MatchResult o (λ x. r ≡ Ok x) (λ e. IsErrAnd r (P e)) → ((e : Refusal) (y : LineRefused) → P e y → y ≡ refused_at n e) → r ≡ at_line n o
 numbered (Ok x) r n h f = h
 numbered (Err e) (Ok x) n h f = absurd h
@@ -98,10 +105,20 @@ line_added : (n : ℕ) (m : Making) (o : Outcome Making) (u : Unit {0}) → told
 line_added n m (Ok a) u h = refl
 line_added n m (Err e) u h = let z : ◌≡◌ {A = ℕ} 0 1 = cc h in absurd (omega arith)
 
+-- an answer that is handed on is the outcome's
+line_given : (n : ℕ) (o : Outcome Making) (a : Making) → at_line n o ≡ Ok a → o ≡ Ok a
+line_given n (Ok x) a h = ap Ok (cc h)
+line_given n (Err e) a h = let z : ◌≡◌ {A = ℕ} 0 1 = cc h in absurd (omega arith)
+
 -- a refusal stops the text
 line_stopped : (n : ℕ) (next : Making → TextOutcome) (o : Outcome Making) (x : LineRefused) → told_at n o ≡ Err x → or_stopped n next o ≡ Err x
 line_stopped n next (Ok a) x h = let z : ◌≡◌ {A = ℕ} 0 1 = cc h in absurd (omega arith)
 line_stopped n next (Err e) x h = ap Err (cc h)
+
+-- a refusal with the number of its line is told
+line_told : (n : ℕ) (o : Outcome Making) (x : LineRefused) → at_line n o ≡ Err x → told_at n o ≡ Err x
+line_told n (Ok a) x h = let z : ◌≡◌ {A = ℕ} 0 1 = cc h in absurd (omega arith)
+line_told n (Err e) x h = ap Err (cc h)
 
 -- what `?` hands on
 pub handed_on : (r : Result Making LineRefused) (x : LineRefused) → IsErrAnd r (λ y. y ≡ x) → r ≡ Err x
@@ -140,17 +157,35 @@ module _ (text : List ℕ) (m : Making) (k at : ℕ) (s : Reached text m k at) w
     begins = sym (rw d at s.rest) ∙ first_made k at m l (drop (suc k) (lines_taken text))
 
     -- after it, where it is added
-    pub reached-next : (a : Making) (v : Unit {0}) → told_at (k + 1) (added_at m l (at + length l)) ≡ Ok v
-        → a ≡ value_or (λ n. n) m (added_at m l (at + length l)) → Reached text a (k + 1) (at + length l + 1)
-    reached-next a v h c =
-        let o = line_added (k + 1) m (added_at m l (at + length l)) v h ∙ ap Ok (sym c) in
+    added_next : (a : Making) → added_at m l (at + length l) ≡ Ok a → Reached text a (k + 1) (at + length l + 1)
+    added_next a o =
         let u = unless_answered (leb (at + length l) most_text) _ _ o in
         let w = leb-true (at + length l) most_text u.0 in
         record { lines = omega (arith, s.lines); place = omega arith; rest = rw (add-one k) (sym (rw o at begins)) }
 
+    -- the same where whether it is added is told, and the frames after it stand beside
+    pub told-next : (a : Making) (v : Unit {0}) → told_at (k + 1) (added_at m l (at + length l)) ≡ Ok v
+        → a ≡ value_or (λ n. n) m (added_at m l (at + length l)) → Reached text a (k + 1) (at + length l + 1)
+    told-next a v h c = added_next a (line_added (k + 1) m (added_at m l (at + length l)) v h ∙ ap Ok (sym c))
+
     -- where it is refused, so is the text
-    pub reached-not : (x : LineRefused) → told_at (k + 1) (added_at m l (at + length l)) ≡ Err x → text_stream text ≡ Err x
-    reached-not x h = begins ∙ line_stopped (suc k) _ (added_at m l (at + length l)) x (rw add-one at h)
+    pub told-not : (x : LineRefused) → told_at (k + 1) (added_at m l (at + length l)) ≡ Err x → text_stream text ≡ Err x
+    told-not x h = begins ∙ line_stopped (suc k) _ (added_at m l (at + length l)) x (rw add-one at h)
+
+  -- the same of what the line adds, where the place at which it ends may be any past the longest text
+  module _ (l : List ℕ) (end : ℕ) (d : drop k (lines_taken text) ≡ l ∷ drop (suc k) (lines_taken text)) (e : end ≡ min (at + length l) (2 ^ 64 - 1)) where
+    pub reached-next : (a : Making) → at_line (k + 1) (added_at m l end) ≡ Ok a → Reached text a (k + 1) (end + 1)
+    reached-next a h =
+        let o = line_given (k + 1) (added_at m l end) a h in
+        let u = unless_answered (leb end most_text) _ _ o in
+        let w = leb-true end most_text u.0 in
+        let z : at + length l ≡ end = omega arith in
+        rw z at (added_next l d a (rw (← z) at o))
+
+    pub reached-not : (x : LineRefused) → at_line (k + 1) (added_at m l end) ≡ Err x → text_stream text ≡ Err x
+    reached-not x h =
+        let t = line_told (k + 1) (added_at m l end) x h in
+        told-not l d x (rw (same_end end (at + length l) e) at t)
 
   -- after the last line
   pub reached-all : length (lines_taken text) ≤ k → text_stream text ≡ Ok (stream_of m)

@@ -2,7 +2,7 @@
 use Rattle.std.proofs.Common.{◌≡◌, suc, ◌+◌, min, ◌∷◌, take, drop, length, length-append, refl, sym, ap, ◌∙◌, rules, tests, of_calls}
 use Rattle.std.specs.Result.{result_map_both}
 use Rattle.sbr_make.specs.Making.{stream_of, most_text}
-use Rattle.sbr_make.proofs.Reached.{next_line, no_line, added_at, told_at, numbered, handed_on, lines_taken, reached_none, reached-next, reached-not, reached-all}
+use Rattle.sbr_make.proofs.Reached.{next_line, no_line, added_at, told_at, numbered, handed_on, lines_taken, reached_none, told-next, told-not, reached-all}
 use Rattle.sbr_make.proofs.add_lines.Goals as goal
 use Rattle.sbr_make.proofs.add_lines.Goals.{After-map_err}
 
@@ -27,7 +27,7 @@ returns-in_err-map_err c =
     let t = turn (goal.at.returns-in_err-map_err c).After-map_err in
     let x = c.in_err-map_err.field-0.0 in
     ap (λ o. result_map_both (λ m. stream_of m) (λ e. e) o) (handed_on c.from_residual.result x c.from_residual.ensures.1)
-    ∙ sym (reached-not c.args.text.now _ _ _ c.loop-i.invariant.reached _ t.0 x (sym t.1 ∙ c.in_err-map_err.was))
+    ∙ sym (told-not c.args.text.now _ _ _ c.loop-i.invariant.reached _ t.0 x (sym t.1 ∙ c.in_err-map_err.was))
 
 pub loop-i-preserved : goal.loop-i-preserved
 loop-i-preserved c =
@@ -37,7 +37,7 @@ loop-i-preserved c =
       finite = search of_calls;
       reached =
           rw length-append
-          (reached-next c.args.text.now _ _ _ c.loop-i.invariant.reached _ t.0 c.add_line.new.self c.in_ok-map_err.field-0
+          (told-next c.args.text.now _ _ _ c.loop-i.invariant.reached _ t.0 c.add_line.new.self c.in_ok-map_err.field-0
           (sym t.1 ∙ c.in_ok-map_err.was) c.add_line.ensures.frames);
     }
 
