@@ -9,7 +9,7 @@ use lib.Dec.{ltb}
 use lib.ListN.{length, length-append, take, drop, get_or, drop_of_length-le}
 use Rattle.std.specs.Option.{unwrap_or}
 use Rattle.std.specs.List.{list_all, slice_get}
-use Rattle.std.proofs.lemmas.List.{drop_more, at_drop_more, length-drop, length-reverse, reverse-append}
+use Rattle.std.proofs.lemmas.List.{drop_more, length-drop, length-reverse, reverse-append}
 use Rattle.sbr_borders.specs.Borders.{rises_from, last_or, steps_up, steps_down, even_ok, all_even, reaches}
 use Rattle.sbr_borders.proofs.Shifts.{taken_up}
 
@@ -63,6 +63,16 @@ even_walk f p (b ∷ bs) = ap (λ r. even_ok (f p b) && r) (even_walk f b bs)
 pub drop-next : {A : Type 0} (d : A) (l : List A) (i : ℕ) (x : A) → i < length l → get_or l i d ≡ x → drop i l ≡ x ∷ drop (i + 1) l
 drop-next d l i x h e = rw e at (drop_more l i d h)
 
+-- one step more, d, behind those so far
+step_more : (f : ℕ → ℕ → ℕ) (p b d : ℕ) (out more r bs : List ℕ) → d ≡ f p b → more ≡ out ++ (d ∷ []) → out ++ steps f p (b ∷ bs) ≡ r → more ++ steps f b bs ≡ r
+unfolding steps
+step_more f p b d out more r bs e g k = rw (g, e, append_assoc out (f p b ∷ []) (steps f b bs)) k
+
+-- no step more
+step_none : (f : ℕ → ℕ → ℕ) (p : ℕ) (out r : List ℕ) → out ++ steps f p [] ≡ r → out ≡ r
+unfolding steps
+step_none f p out r k = sym (append-nil out) ∙ k
+
 -- before index i of n, with p the element before it, all tests passed: the rest decides r
 pub record Walk (t : ℕ → ℕ → Bool) (l : List ℕ) (n : ℕ) (r : Bool) (i p : ℕ) : Type 0 where
   pub size : length l ≡ n
@@ -99,20 +109,17 @@ steps_begin s h e g = record { size = s; few = h; count = ap length e; rest = rw
 module _ {f : ℕ → ℕ → ℕ} {l : List ℕ} {n : ℕ} {r : List ℕ} {i p : ℕ} {out : List ℕ} (s : Steps f l n r i p out) where
   -- one step more
   pub steps_next : (b d : ℕ) (more : List ℕ) → i < n → get_or l i 0 ≡ b → d ≡ f p b → more ≡ out ++ (d ∷ []) → Steps f l n r (i + 1) b more
-  unfolding steps
   steps_next b d more h e g k =
       record {
         size = s.size;
         few = s.few;
         count = rw (k, length-append) (omega (arith, s.count));
-        rest = rw (k, g, append_assoc out (f p b ∷ []) (steps f b (drop (i + 1) l)))
-            (rw (drop-next 0 l i b (omega (arith, s.size)) e) at s.rest);
+        rest = step_more f p b d out more r (drop (i + 1) l) g k (rw (drop-next 0 l i b (omega (arith, s.size)) e) at s.rest);
       }
 
   -- no element is left
   pub steps-end : n ≤ i → out ≡ r
-  unfolding steps
-  steps-end h = sym (append-nil out) ∙ rw (drop_of_length-le l {i = i} (omega (arith, s.size))) at s.rest
+  steps-end h = step_none f p out r (rw (drop_of_length-le l {i = i} (omega (arith, s.size))) at s.rest)
 
 -- the borders that are left of a walk from the end down, last first, are those from as many on as are passed
 abbrev pub Left : List ℕ → List ℕ → Type 0
@@ -136,42 +143,42 @@ left-next bs rest fewer b e h =
 
 -- ---- the same in the words of the definitions, and for lengths of any number of borders
 
+-- rising borders are such a walk
+rising : (p : ℕ) (r : Bool) (bs : List ℕ) (i : ℕ) → rises_from p (drop i bs) ≡ r → Walk ltb bs (length bs) r i p
+rising p r bs i g = record { size = refl; rest = sym (rises_walk p (drop i bs)) ∙ g }
+
 -- rising borders, the first of those that are left above p
 pub rises_more : (p : ℕ) (r : Bool) (bs : List ℕ) (i : ℕ) → i < length bs → p < get_or bs i 0 → rises_from p (drop i bs) ≡ r → rises_from (get_or bs i 0) (drop (i + 1) bs) ≡ r
-unfolding rises_from
-rises_more p r bs i h k g = rw (lt-ltb p (get_or bs i 0) k) at (rw (at_drop_more (λ l. l) bs i 0 h) at g)
+rises_more p r bs i h k g =
+    rises_walk (get_or bs i 0) (drop (i + 1) bs) ∙ (walk-next (rising p r bs i g) (get_or bs i 0) h refl (lt-ltb p (get_or bs i 0) k)).rest
 
 -- the first of those is not
 pub rises_not : (p : ℕ) (r : Bool) (bs : List ℕ) (i : ℕ) → i < length bs → get_or bs i 0 ≤ p → rises_from p (drop i bs) ≡ r → false ≡ r
-unfolding rises_from
-rises_not p r bs i h k g = rw (le-ltb p (get_or bs i 0) k) at (rw (at_drop_more (λ l. l) bs i 0 h) at g)
+rises_not p r bs i h k g = walk-stop (rising p r bs i g) (get_or bs i 0) h refl (le-ltb p (get_or bs i 0) k)
 
 -- none is left
 pub rises_all : (p : ℕ) (r : Bool) (bs : List ℕ) (i : ℕ) → length bs ≤ i → rises_from p (drop i bs) ≡ r → true ≡ r
-unfolding rises_from
-rises_all p r bs i h g = rw (drop_of_length-le bs {i = i} h) at g
+rises_all p r bs i h g = walk_end (rising p r bs i g) h
 
 -- one step more of those up
 pub up_more : (p d : ℕ) (out more r bs : List ℕ) (i : ℕ) → i < length bs → more ≡ out ++ (d ∷ []) → d ≡ get_or bs i 0 - p → out ++ steps_up p (drop i bs) ≡ r
     → more ++ steps_up (get_or bs i 0) (drop (i + 1) bs) ≡ r
-unfolding steps_up
-up_more p d out more r bs i h e f g = rw (e, append_assoc, f) (rw (at_drop_more (λ l. l) bs i 0 h) at g)
+up_more p d out more r bs i h e f g =
+    rw up_steps (step_more up p (get_or bs i 0) d out more r (drop (i + 1) bs) f e (rw (up_steps, drop_more bs i 0 h) at g))
 
 -- no border is left
 pub up_all : (p : ℕ) (out r bs : List ℕ) (i : ℕ) → length bs ≤ i → out ++ steps_up p (drop i bs) ≡ r → out ≡ r
-unfolding steps_up
-up_all p out r bs i h g = sym (append-nil out) ∙ rw (drop_of_length-le bs {i = i} h) at g
+up_all p out r bs i h g = step_none up p out r (rw (up_steps, drop_of_length-le bs {i = i} h) at g)
 
 -- one step more of those down, where rest holds the borders that are left
 pub down_more : (t d b : ℕ) (out more r rest fewer : List ℕ) → rest ≡ fewer ++ (b ∷ []) → more ≡ out ++ (d ∷ []) → d ≡ t - b
     → out ++ steps_down t (reverse rest) ≡ r → more ++ steps_down b (reverse fewer) ≡ r
-unfolding steps_down
-down_more t d b out more r rest fewer h e f g = rw (e, append_assoc, f) (rw (h, reverse-append fewer (b ∷ [])) at g)
+down_more t d b out more r rest fewer h e f g =
+    rw down_steps (step_more down t b d out more r (reverse fewer) f e (rw (down_steps, h, reverse-append fewer (b ∷ [])) at g))
 
 -- no border is left
 pub down_all : (t : ℕ) (out r rest : List ℕ) → length rest ≡ 0 → out ++ steps_down t (reverse rest) ≡ r → out ≡ r
-unfolding steps_down
-down_all t out r [] h g = sym (append-nil out) ∙ g
+down_all t out r [] h g = step_none down t out r (rw down_steps at g)
 down_all t out r (b ∷ rest) h g = absurd (omega arith)
 
 -- the lengths one by one

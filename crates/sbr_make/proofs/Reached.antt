@@ -163,7 +163,7 @@ module _ (text : List ℕ) (m : Making) (k at : ℕ) (s : Reached text m k at) w
         let w = leb-true (at + length l) most_text u.0 in
         record { lines = omega (arith, s.lines); place = omega arith; rest = rw (add-one k) (sym (rw o at begins)) }
 
-    -- the same where whether it is added is told, and the frames after it stand beside
+    -- the same by the answer, which tells only whether the line is added, and the frames after it
     pub told-next : (a : Making) (v : Unit {0}) → told_at (k + 1) (added_at m l (at + length l)) ≡ Ok v
         → a ≡ value_or (λ n. n) m (added_at m l (at + length l)) → Reached text a (k + 1) (at + length l + 1)
     told-next a v h c = added_next a (line_added (k + 1) m (added_at m l (at + length l)) v h ∙ ap Ok (sym c))
